@@ -12,7 +12,7 @@ use Rattle.sms_centre_spec.specs.conditions.RowsTest.{has_address}
 use Rattle.sms_centre_spec.specs.declared.rows.Rows.{Rows}
 use Rattle.sms_centre_spec.specs.declared.setup.Setup.{Setup}
 use Rattle.sms_centre_spec.specs.Draft.{Core}
-use Rattle.sms_centre_spec.specs.SoundCore.{IsLine, IsSentFor, IsSession, IsSoundCore, IsUnderWay}
+use Rattle.sms_centre_spec.specs.SoundCore.{IsLink, IsSentFor, IsSession, IsSoundCore, IsUnderWay}
 use Rattle.sms_centre_spec.specs.SoundRows.{IsSetup, IsSound}
 use Rattle.sms_centre.specs.Enrolling.{accounts_of, accounts_with, enrolled, rows_with, setup_with, state_with}
 use Rattle.sms_centre.specs.state.CentreState.{CentreStateOf, Represents}
@@ -61,8 +61,8 @@ module _ (x : CentreAccount) (rows : Rows) where
   under_way_more handset None is = is
   under_way_more handset (Some transfer) is = (is.0, sent_more handset transfer.reference transfer.tag is.1)
 
-  line_more : (l : HandsetLink) → IsLine rows l → IsLine (rows_with x rows) l
-  line_more l k = record { handset = k.handset; side = k.side; under_way = under_way_more l.handset l.link.under_way k.under_way; answered = k.answered }
+  link_more : (l : HandsetLink) → IsLink rows l → IsLink (rows_with x rows) l
+  link_more l k = record { handset = k.handset; side = k.side; under_way = under_way_more l.handset l.near_end.under_way k.under_way; answered = k.answered }
 
   session_more : (s : Session) → IsSession rows s → IsSession (rows_with x rows) s
   session_more s k = record { unanswered = k.unanswered }
@@ -72,7 +72,7 @@ core_more x c s = record {
   rows = rows_more x c.rows s.rows;
   now = s.now;
   moment = s.moment;
-  each_line = λ l there. line_more x c.rows l (s.each_line l there);
+  each_link = λ l there. link_more x c.rows l (s.each_link l there);
   apart = s.apart;
   session_keys = s.session_keys;
   each_session = λ q there. session_more x c.rows q (s.each_session q there);

@@ -16,7 +16,7 @@ use Rattle.sms_centre_rows.specs.declared.reports.report.ReportRow.{ReportRow}
 use Rattle.sms_centre_rows.specs.declared.waiting.handset_link.HandsetLink.{HandsetLink}
 use Rattle.sms_centre_rows.specs.messages.Messages.{message_at, message_key}
 use Rattle.sms_centre_rows.specs.messages.PartEntries.{Few}
-use Rattle.sms_centre_rows.specs.waiting.Links.{line_at, line_of, or_new_line}
+use Rattle.sms_centre_rows.specs.waiting.Links.{link_at, link_of, or_new_link_to}
 use Rattle.sms_centre_reports.specs.declared.report_log.by_message.MessageReport.{MessageReport}
 use Rattle.sms_centre_reports.specs.declared.report_log.log.LoggedReport.{LoggedReport}
 use Rattle.sms_centre_reports.specs.report_log.ByMessage.{reports_between}
@@ -27,9 +27,9 @@ use Rattle.sms_centre_spec.specs.Draft.{Core}
 use Rattle.sms_centre_spec.specs.SoundCore.{IsSentFor, IsSoundCore, IsUnderWay}
 use Rattle.sms_centre_spec.specs.forgetting.Forget.{is_carried, is_held_for, is_on_way}
 use Rattle.sms_centre_spec.specs.forgetting.Forgetting.{going}
-use Rattle.sms_centre_spec.proofs.SoundLinks.{line_found, line_none}
+use Rattle.sms_centre_spec.proofs.SoundLinks.{link_found, link_none}
 use Rattle.sms_centre_spec.proofs.forgetting.Now.{on_way_there}
-use Rattle.sms_centre_draft.proofs.walks.LinesStay.{line_own}
+use Rattle.sms_centre_draft.proofs.walks.LinksStay.{link_own}
 use Rattle.sms_centre.specs.Forgetting.{gone_at}
 
 pub few_parts : (c : Core) → IsSoundCore c → Few c.rows.parts
@@ -39,28 +39,28 @@ few_parts c s = record { keys = s.rows.messages.part_keys; numbers = λ p a. let
 
 module _ (c : Core) (s : IsSoundCore c) (m : MessageRow) (there : message_at m.id c.rows.messages ≡ Some m) where
   abbrev carried_to : List ℕ → Bool
-  carried_to number = is_carried m.id (line_of number c.lines).link.under_way
+  carried_to number = is_carried m.id (link_of number c.links).near_end.under_way
 
-  -- a line that is there carries it
-  on_line : (number : List ℕ) → carried_to number ≡ true → is_on_way m.id c.lines ≡ true
-  on_line number e = by (line_at number c.lines) refl e
+  -- a link that is there carries it
+  on_link : (number : List ℕ) → carried_to number ≡ true → is_on_way m.id c.links ≡ true
+  on_link number e = by (link_at number c.links) refl e
     where
-      by : (o : Option HandsetLink) → line_at number c.lines ≡ o → is_carried m.id (or_new_line number o).link.under_way ≡ true → is_on_way m.id c.lines ≡ true
+      by : (o : Option HandsetLink) → link_at number c.links ≡ o → is_carried m.id (or_new_link_to number o).near_end.under_way ≡ true → is_on_way m.id c.links ≡ true
       by None q f = let bad : false ≡ true = f in absurd cc
-      by (Some l) q f = on_way_there m.id l c.lines (line_found number l c.lines q).0 f
+      by (Some l) q f = on_way_there m.id l c.links (link_found number l c.links q).0 f
 
-  record OnLine : Type 0 where
-    line : HandsetLink
-    among : Among line c.lines
-    carried : is_carried m.id line.link.under_way ≡ true
+  record OnLink : Type 0 where
+    link : HandsetLink
+    among : Among link c.links
+    carried : is_carried m.id link.near_end.under_way ≡ true
 
-  found_line : (ls : List HandsetLink) → ((l : HandsetLink) → Among l ls → Among l c.lines) → is_on_way m.id ls ≡ true → OnLine
-  found_line [] all e = let bad : false ≡ true = e in absurd cc
-  found_line (l ∷ ls) all e = ⊎_elim
-      (λ (t : is_carried m.id l.link.under_way ≡ true). record { line = l; among = all l (inl refl); carried = t })
-      (λ (t : is_carried m.id l.link.under_way ≡ false).
-      found_line ls (λ x a. all x (inr a)) (sym (ap (λ (b : Bool). b || is_on_way m.id ls) t) ∙ e))
-      (cases_Bool (is_carried m.id l.link.under_way))
+  found_link : (ls : List HandsetLink) → ((l : HandsetLink) → Among l ls → Among l c.links) → is_on_way m.id ls ≡ true → OnLink
+  found_link [] all e = let bad : false ≡ true = e in absurd cc
+  found_link (l ∷ ls) all e = ⊎_elim
+      (λ (t : is_carried m.id l.near_end.under_way ≡ true). record { link = l; among = all l (inl refl); carried = t })
+      (λ (t : is_carried m.id l.near_end.under_way ≡ false).
+      found_link ls (λ x a. all x (inr a)) (sym (ap (λ (b : Bool). b || is_on_way m.id ls) t) ∙ e))
+      (cases_Bool (is_carried m.id l.near_end.under_way))
 
   own_message : (w : MessageRow) (n : ℕ) → (n == m.id) ≡ true → message_at n c.rows.messages ≡ Some w → w ≡ m
   own_message w n e found =
@@ -72,32 +72,32 @@ module _ (c : Core) (s : IsSoundCore c) (m : MessageRow) (there : message_at m.i
   for_it handset reference (Entry n) e i = let bad : false ≡ true = e in absurd cc
   for_it handset reference (Memory n) e i = let bad : false ≡ true = e in absurd cc
 
-  for_line : (handset : List ℕ) (o : Option Carried) → is_carried m.id o ≡ true → IsUnderWay handset o c.rows → (m.handset ≡ handset) ⊎ (m.source.digits ≡ handset)
-  for_line handset None e i = let bad : false ≡ true = e in absurd cc
-  for_line handset (Some t) e i = for_it handset t.reference t.tag e i.1
+  for_link : (handset : List ℕ) (o : Option Carried) → is_carried m.id o ≡ true → IsUnderWay handset o c.rows → (m.handset ≡ handset) ⊎ (m.source.digits ≡ handset)
+  for_link handset None e i = let bad : false ≡ true = e in absurd cc
+  for_link handset (Some t) e i = for_it handset t.reference t.tag e i.1
 
-  pub way_by_ends : (carried_to m.handset || carried_to m.source.digits) ≡ is_on_way m.id c.lines
-  way_by_ends = same_bool (carried_to m.handset || carried_to m.source.digits) (is_on_way m.id c.lines)
+  pub way_by_ends : (carried_to m.handset || carried_to m.source.digits) ≡ is_on_way m.id c.links
+  way_by_ends = same_bool (carried_to m.handset || carried_to m.source.digits) (is_on_way m.id c.links)
       (λ e. ⊎_elim
-      (λ (t : carried_to m.handset ≡ true). on_line m.handset t)
-      (λ (t : carried_to m.handset ≡ false). on_line m.source.digits (sym (ap (λ (b : Bool). b || carried_to m.source.digits) t) ∙ e))
+      (λ (t : carried_to m.handset ≡ true). on_link m.handset t)
+      (λ (t : carried_to m.handset ≡ false). on_link m.source.digits (sym (ap (λ (b : Bool). b || carried_to m.source.digits) t) ∙ e))
       (cases_Bool (carried_to m.handset)))
       (λ e.
-      let f = found_line c.lines (λ l a. a) e in
-      let l : HandsetLink = f.line in
-      let own : line_of l.handset c.lines ≡ l = line_own l c.lines s.apart f.among in
-      let carried : carried_to l.handset ≡ true = ap (λ (x : HandsetLink). is_carried m.id x.link.under_way) own ∙ f.carried in
+      let f = found_link c.links (λ l a. a) e in
+      let l : HandsetLink = f.link in
+      let own : link_of l.handset c.links ≡ l = link_own l c.links s.apart f.among in
+      let carried : carried_to l.handset ≡ true = ap (λ (x : HandsetLink). is_carried m.id x.near_end.under_way) own ∙ f.carried in
       ⊎_elim
       (λ (q : m.handset ≡ l.handset). or_left (carried_to m.handset) (carried_to m.source.digits) (ap (λ (n : List ℕ). carried_to n) q ∙ carried))
       (λ (q : m.source.digits ≡ l.handset). or_right (carried_to m.handset) (carried_to m.source.digits) (ap (λ (n : List ℕ). carried_to n) q ∙ carried))
-      (for_line l.handset l.link.under_way f.carried (s.each_line l f.among).under_way))
+      (for_link l.handset l.near_end.under_way f.carried (s.each_link l f.among).under_way))
 
--- what is no number has no line
-pub no_line : (id : ℕ) (number : List ℕ) (lines : List HandsetLink) → ((l : HandsetLink) → Among l lines → IsMsisdn l.handset) → (IsMsisdn number → ⊥)
-    → false ≡ is_carried id (line_of number lines).link.under_way
-no_line id number lines digits none =
-    sym (ap (λ (o : Option HandsetLink). is_carried id (or_new_line number o).link.under_way)
-    (line_none number lines (λ x a e. none (subst (λ (n : List ℕ). IsMsisdn n) e (digits x a)))))
+-- what is no number has no link
+pub no_link : (id : ℕ) (number : List ℕ) (links : List HandsetLink) → ((l : HandsetLink) → Among l links → IsMsisdn l.handset) → (IsMsisdn number → ⊥)
+    → false ≡ is_carried id (link_of number links).near_end.under_way
+no_link id number links digits none =
+    sym (ap (λ (o : Option HandsetLink). is_carried id (or_new_link_to number o).near_end.under_way)
+    (link_none number links (λ x a e. none (subst (λ (n : List ℕ). IsMsisdn n) e (digits x a)))))
 
 -- ---- one message more is looked at
 

@@ -4,7 +4,7 @@ use Rattle.std.specs.declared.alloc.AllocError.{AllocError}
 use Rattle.sms_centre_spec.specs.declared.event.CentreEvent.{CentreEvent}
 use Rattle.sms_centre_spec.specs.declared.event.CentreEvent.TheVariants.{Submit, Query, Cancel, Bound, Unbound, DeliverAnswered, Frame, LinkUp, LinkDown}
 use Rattle.sms_centre_spec.specs.declared.event.CentreEvent.TheVariants.{Ordered, Tick}
-use Rattle.sms_centre_rows.specs.waiting.Links.{line_of}
+use Rattle.sms_centre_rows.specs.waiting.Links.{link_of}
 use Rattle.sms_centre_spec.specs.CentreEvent.{aged, at_moment, fired, frame_taken, lower, raise, raised, tag_of}
 use Rattle.sms_centre_spec.specs.Draft.{Core, Draft, draft_of}
 use Rattle.sms_centre_spec.specs.Orders.{ordered}
@@ -19,7 +19,7 @@ acted (Cancel account wanted) c = cancel account wanted (draft_of c)
 acted (Bound session account receives) c = bind session account receives (draft_of c)
 acted (Unbound session) c = unbind session (draft_of c)
 acted (DeliverAnswered session id is_accepted) c = deliver_answered session id is_accepted (draft_of c)
-acted (Frame handset octets tag) c = frame_taken octets (tag_of tag) (line_of handset c.lines) (draft_of c)
+acted (Frame handset octets tag) c = frame_taken octets (tag_of tag) (link_of handset c.links) (draft_of c)
 acted (LinkUp handset) c = raise handset (draft_of c)
 acted (LinkDown handset) c = lower handset (draft_of c)
 acted (Ordered order id) c = ordered order id (draft_of c)

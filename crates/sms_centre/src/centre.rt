@@ -12,7 +12,7 @@ ghost use Rattle.sms_centre.specs.Enrolling.{accounts_of, accounts_with, enrolle
 ghost use Rattle.sms_centre.specs.Planning.{DefinedOutcome, FitsTheCentre};
 ghost use Rattle.sms_centre.specs.Stored.{StoresRows};
 ghost use Rattle.sms_centre_rows.specs.messages.Messages.{message_at};
-ghost use Rattle.sms_centre_rows.specs.waiting.Links.{line_of};
+ghost use Rattle.sms_centre_rows.specs.waiting.Links.{link_of};
 ghost use Rattle.sms_centre_queue.specs.queue.Watching.{figures_of};
 ghost use Rattle.sms_centre_spec.specs.SoundRows.{all_for};
 ghost use Rattle.sms_rows.specs.keep.StoreOutcome.{StoreOutcome, WasHonest};
@@ -367,14 +367,14 @@ impl Centre {
 
     /// How many parts and status reports wait for the handset, and how its link is.
     pub fn figures(&self, handset: &Msisdn) -> LinkFigures
-        ensures { (c : Core) → Represents c self.now → result ≡ figures_of (all_for handset.now c.rows) (line_of handset.now c.lines) }
+        ensures { (c : Core) → Represents c self.now → result ≡ figures_of (all_for handset.now c.rows) (link_of handset.now c.links) }
     {
         self.centre_state.figures(handset)
     }
 
     /// What the transaction to the handset carries that is under way.
     pub fn under_way(&self, handset: &Msisdn) -> Option<Carried>
-        ensures { (c : Core) → Represents c self.now → result ≡ (line_of handset.now c.lines).link.under_way }
+        ensures { (c : Core) → Represents c self.now → result ≡ (link_of handset.now c.links).near_end.under_way }
     {
         self.centre_state.under_way(handset)
     }

@@ -3,7 +3,7 @@ ghost use Rattle.std.specs.Prelude.{◌≡◌, ◌∷◌, [], ◌++◌, ◌+◌,
 ghost use Rattle.sms_rows.specs.table.Table.{Rises};
 ghost use Rattle.sms_centre_rows.specs.declared.reports.report.ReportRow.{ReportRow as ReportRowOf};
 ghost use Rattle.sms_centre_rows.specs.messages.Messages.{message_at};
-ghost use Rattle.sms_centre_rows.specs.waiting.Links.{line_of};
+ghost use Rattle.sms_centre_rows.specs.waiting.Links.{link_of};
 ghost use Rattle.sms_centre_reports.specs.report_log.ByMessage.{reports_between};
 ghost use Rattle.sms_centre_reports.specs.report_log.ReportLog.{Represents as LogRepresents};
 ghost use Rattle.sms_centre_spec.specs.Draft.{Core, Draft, changes_in, draft_of};
@@ -72,14 +72,14 @@ fn is_carried(transfer: Option<Carried>, id: MessageId) -> bool
 
 // It is under way to that handset.
 fn is_on_way_to(draft: &CentreDraft<'_>, handset: Msisdn, id: MessageId) -> bool
-    ensures { (c : Core) → DraftRepresents (draft_of c) draft.now → result ≡ is_carried_of id (line_of handset c.lines).link.under_way }
+    ensures { (c : Core) → DraftRepresents (draft_of c) draft.now → result ≡ is_carried_of id (link_of handset c.links).near_end.under_way }
 {
     is_carried(draft.under_way(handset), id)
 }
 
 // It is under way to that source. What is no number has no link.
 fn is_on_way_back(draft: &CentreDraft<'_>, source: &Digits, id: MessageId) -> bool
-    ensures { (c : Core) → DraftRepresents (draft_of c) draft.now → result ≡ is_carried_of id (line_of source.now c.lines).link.under_way }
+    ensures { (c : Core) → DraftRepresents (draft_of c) draft.now → result ≡ is_carried_of id (link_of source.now c.links).near_end.under_way }
 {
     match Msisdn::of_digits(source) {
         Some(number) => is_on_way_to(draft, number, id),
@@ -90,7 +90,7 @@ fn is_on_way_back(draft: &CentreDraft<'_>, source: &Digits, id: MessageId) -> bo
 // It or its report is under way: to its handset, or to its source.
 fn is_on_way(draft: &CentreDraft<'_>, message: &Message) -> bool
     ensures { (c : Core) (state : CentreStateOf) → DraftRepresents (draft_of c) draft.now → StateRepresents c state
-        → message_at message.now.id c.rows.messages ≡ Some message.now → result ≡ is_on_way_of message.now.id c.lines }
+        → message_at message.now.id c.rows.messages ≡ Some message.now → result ≡ is_on_way_of message.now.id c.links }
 {
     if is_on_way_to(draft, message.handset, message.id) {
         return true;

@@ -24,7 +24,7 @@ use Rattle.sms_centre_spec.specs.declared.verdict.Verdict.{Verdict}
 use Rattle.sms_centre_spec.specs.declared.verdict.Verdict.TheVariants.{Late}
 use Rattle.sms_centre_spec.specs.Draft.{Draft, Store, in_store, messages_in, on_links, parts_in, reports_in}
 use Rattle.sms_centre_spec.specs.Consistent.{IsConsistent}
-use Rattle.sms_centre_spec.specs.Transfers.{ended_with, is_open_part_at, is_open_status_at, line_ended, part_ended, part_ended_at, part_ended_of, report_ended, report_ended_at, verdict_of, verdict_on}
+use Rattle.sms_centre_spec.specs.Transfers.{ended_with, is_open_part_at, is_open_status_at, link_ended, part_ended, part_ended_at, part_ended_of, report_ended, report_ended_at, verdict_of, verdict_on}
 use Rattle.sms_centre_spec.proofs.Steady.{part_own, report_own}
 use Rattle.sms_centre_draft.specs.Transfers.{IsOpenPart, IsOpenStatus, IsReporting, IsWaiting, waiting_part, waiting_status}
 
@@ -154,7 +154,7 @@ open_undone r e = not-true r.progress.is_done (and_parts (is_status r.kind) (not
 -- ---- how what waits ends
 
 pub part_ends : (d : Draft) (handset : List ℕ) (id number : ℕ) (ending : Ending) (entry : PartEntry) (m : MessageRow) (p : PartRow) → IsWaiting id number entry m d.store p
-    → ended_with (verdict_on (Part id number) ending d.store) handset (Part id number) d ≡ on_links (line_ended (verdict_of ending) handset d.links) (in_store (part_ended (verdict_of ending) p m d.store) d)
+    → ended_with (verdict_on (Part id number) ending d.store) handset (Part id number) d ≡ on_links (link_ended (verdict_of ending) handset d.links) (in_store (part_ended (verdict_of ending) p m d.store) d)
 part_ends d handset id number ending entry m p waits =
     let s : Store = d.store in
     let v : Verdict = verdict_of ending in
@@ -162,14 +162,14 @@ part_ends d handset id number ending entry m p waits =
     ap (λ (o : Option PartRow). is_open_part_at o s) waits.part ∙ ap (λ (o : Option MessageRow). is_open_part p o) waits.message
     ∙ and_from (not p.progress.is_done) (is_pending m) (ap (λ (b : Bool). not b) waits.undone) waits.pending in
     ap (λ (x : Verdict). ended_with x handset (Part id number) d) (cond-true (is_open_part_at (part_at id number (parts_in s)) s) v Late is)
-    ∙ ap (λ (o : Option PartRow). on_links (line_ended v handset d.links) (in_store (part_ended_at v o s) d)) waits.part
-    ∙ ap (λ (o : Option MessageRow). on_links (line_ended v handset d.links) (in_store (part_ended_of v p o s) d)) waits.message
+    ∙ ap (λ (o : Option PartRow). on_links (link_ended v handset d.links) (in_store (part_ended_at v o s) d)) waits.part
+    ∙ ap (λ (o : Option MessageRow). on_links (link_ended v handset d.links) (in_store (part_ended_of v p o s) d)) waits.message
 
 pub status_ends : (d : Draft) (handset : List ℕ) (id : ℕ) (ending : Ending) (entry : ReportEntry) (m : MessageRow) (r : ReportRow) → IsReporting id entry m d.store r
-    → ended_with (verdict_on (Report id) ending d.store) handset (Report id) d ≡ on_links (line_ended (verdict_of ending) handset d.links) (in_store (report_ended (verdict_of ending) r d.store) d)
+    → ended_with (verdict_on (Report id) ending d.store) handset (Report id) d ≡ on_links (link_ended (verdict_of ending) handset d.links) (in_store (report_ended (verdict_of ending) r d.store) d)
 status_ends d handset id ending entry m r tells =
     let s : Store = d.store in
     let v : Verdict = verdict_of ending in
     let is : is_open_status_at (report_of id (reports_in s)) ≡ true = ap (λ (o : Option ReportRow). is_open_status_at o) tells.report ∙ tells.waits in
     ap (λ (x : Verdict). ended_with x handset (Report id) d) (cond-true (is_open_status_at (report_of id (reports_in s))) v Late is)
-    ∙ ap (λ (o : Option ReportRow). on_links (line_ended v handset d.links) (in_store (report_ended_at v o s) d)) tells.report
+    ∙ ap (λ (o : Option ReportRow). on_links (link_ended v handset d.links) (in_store (report_ended_at v o s) d)) tells.report

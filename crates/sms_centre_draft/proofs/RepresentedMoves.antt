@@ -52,13 +52,13 @@ use Rattle.sms_centre_draft.proofs.ReportsStill.{ended_told}
 pub queues_alike : (g : Allocations) (links : Links) (w w2 : List ℕ → List QueuedPart) (p : QueuesOf) → RepresentsQueues g links w p → ((n : List ℕ) → w2 n ≡ w n) → RepresentsQueues g links w2 p
 queues_alike g links w w2 p represents same = record {
   sound = represents.sound;
-  each = λ n d. subst (λ (ls : List QueuedPart). RepresentsPlaced n (handsets_of g) (references_of g) ls links.lines (placed_of n p)) (sym (same n)) (represents.each n d);
+  each = λ n d. subst (λ (ls : List QueuedPart). RepresentsPlaced n (handsets_of g) (references_of g) ls links.all (placed_of n p)) (sym (same n)) (represents.each n d);
   named = represents.named;
   next_place = represents.next_place;
   handsets = represents.handsets;
   references = represents.references;
   frames = represents.frames;
-  lines = represents.lines;
+  link_count = represents.link_count;
   digits = represents.digits;
   apart = represents.apart;
   indexed = represents.indexed;
@@ -237,19 +237,19 @@ report_far_represented d w r q reports queues represents there done tells placed
 pub nobody_waits : (number : List ℕ) (f : List QueuedPart → List QueuedPart) (g : Allocations) (links : Links) (w w2 : List ℕ → List QueuedPart) (p : QueuesOf) → ¬ IsMsisdn number → RepresentsQueues g links w p → Waits number f w w2 → RepresentsQueues g links w2 p
 nobody_waits number f g links w w2 p not_digits represents waits = record {
   sound = represents.sound;
-  each = λ n d. subst (λ (ls : List QueuedPart). RepresentsPlaced n (handsets_of g) (references_of g) ls links.lines (placed_of n p)) (sym (waits.1 n (λ e. not_digits (subst IsMsisdn (sym e) d)))) (represents.each n d);
+  each = λ n d. subst (λ (ls : List QueuedPart). RepresentsPlaced n (handsets_of g) (references_of g) ls links.all (placed_of n p)) (sym (waits.1 n (λ e. not_digits (subst IsMsisdn (sym e) d)))) (represents.each n d);
   named = represents.named;
   next_place = represents.next_place;
   handsets = represents.handsets;
   references = represents.references;
   frames = represents.frames;
-  lines = represents.lines;
+  link_count = represents.link_count;
   digits = represents.digits;
   apart = represents.apart;
   indexed = represents.indexed;
 }
 
--- ---- the lines are others
+-- ---- the links are others
 
 pub aired_represented : (d : Draft) (w : CentreDraftOf) (links : Links) (queues : QueuesOf) → Represents d w → RepresentsQueues d.store.allocations links (all_waiting d.store) queues → Represents (on_links links d) (record w { queues = queues })
 aired_represented d w links queues represents placed = record {

@@ -1,4 +1,4 @@
--- Receipts go: the rows and the lines stay.
+-- Receipts go: the rows and the links stay.
 use Rattle.std.proofs.Common.{◌≡◌, ℕ, ◌∙◌, ap}
 use Rattle.sms_centre_rows.specs.reports.Receipts.{Bindings, send_all}
 use Rattle.sms_centre_spec.specs.Draft.{Draft, messages_in, reports_in}

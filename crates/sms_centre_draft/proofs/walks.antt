@@ -1,5 +1,5 @@
 pub mod Acting
-pub mod LinesStay
+pub mod LinksStay
 pub mod OffersFound
 pub mod FiresFound
 pub mod RaisesFound

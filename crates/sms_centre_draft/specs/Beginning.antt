@@ -23,6 +23,6 @@ pub record IsCentre (c : Core) (setup : Setup) (moment : ℕ) (messages : Messag
   pub setup_is : setup ≡ c.rows.setup
   pub moment_is : moment ≡ c.moment
   pub messages_are : Represents messages c.rows.messages c.rows.parts
-  pub queues_are : StandsOnQueues c.rows.handsets c.rows.references c.lines (all_of c.rows) queues
+  pub queues_are : StandsOnQueues c.rows.handsets c.rows.references c.links (all_of c.rows) queues
   pub reports_are : RepresentsReports c.rows.messages reports c.rows.reports
   pub sessions_are : sessions ≡ c.sessions

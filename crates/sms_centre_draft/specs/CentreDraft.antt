@@ -20,7 +20,7 @@ pub record CentreDraftOf : Type 0 where
   pub moment : ℕ
   -- messages, their parts and priorities
   pub messages : MessagesOf
-  -- handsets, references, lines, and what waits
+  -- handsets, references, links, and what waits
   pub queues : QueuesOf
   pub reports : ReportsOf
   pub bindings : Bindings

@@ -4,7 +4,7 @@ ghost use Rattle.sms_base.specs.declared.carried.Kind.TheVariants.{Ack, Error};
 ghost use Rattle.sms_link.specs.LinkTurn.{taken};
 ghost use Rattle.sms_relay.specs.Cause.{IsRpCause};
 ghost use Rattle.sms_relay.specs.RelayGrammar.{ack_down, error_down};
-ghost use Rattle.sms_centre_rows.specs.waiting.Links.{line_of, turn_line};
+ghost use Rattle.sms_centre_rows.specs.waiting.Links.{link_of, turn_link};
 ghost use Rattle.sms_intake.specs.Refusals.{cause_of};
 ghost use Rattle.sms_intake.specs.SubmitReports.{accepting_report as accepting_report_of, refusing_report as refusing_report_of};
 ghost use Rattle.sms_centre_spec.specs.Draft.{Draft, answer_with, on_links};
@@ -115,10 +115,10 @@ impl<'a> CentreDraft<'a> {
 
     /// Takes a frame of the handset, whatever its octets, and gives what the link passes up.
     pub fn take(&mut self, handset: Msisdn, frame: &[u8]) -> Result<Option<Upward>, AllocError>
-        ensures up { (d : Draft) → Represents d self.old → IfOk result (λ up. up ≡ (taken frame.now (line_of handset d.links.lines).link).out.up) }
+        ensures up { (d : Draft) → Represents d self.old → IfOk result (λ up. up ≡ (taken frame.now (link_of handset d.links.all).near_end).out.up) }
         ensures state { (d : Draft) → Represents d self.old
-            → OnOk result (Represents (on_links (turn_line (line_of handset d.links.lines)
-            (taken frame.now (line_of handset d.links.lines).link) d.links) d) self.new) }
+            → OnOk result (Represents (on_links (turn_link (link_of handset d.links.all)
+            (taken frame.now (link_of handset d.links.all).near_end) d.links) d) self.new) }
     {
         let up = self.queues.take(handset, frame)?;
         Ok(up)

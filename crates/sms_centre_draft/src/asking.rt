@@ -16,7 +16,7 @@ impl<'a> CentreDraft<'a> {
     /// The handsets that such a walk concerns in the present draft, in the order in which it walks over them.
     pub fn stops(&self, purpose: &Concern) -> Result<Vec<ConcernedHandset>, AllocError>
         ensures { (d : Draft) → Represents d self.now → IfOk result
-            (λ stops. stops.items ≡ found purpose.now (handsets_in d.store) d.links.lines (all_waiting d.store)) }
+            (λ stops. stops.items ≡ found purpose.now (handsets_in d.store) d.links.all (all_waiting d.store)) }
     {
         let stops = self.queues.stops(purpose)?;
         Ok(stops)

@@ -1,14 +1,14 @@
 //! All that waits for a handset becomes due: it has memory (3GPP TS 24.011 7.3.2), or it can be reached.
 ghost use Rattle.std.specs.Prelude.{◌≡◌, ℕ, true, false, OnOk, IfOk};
 ghost use Rattle.sms_base.specs.Among.{Among};
-ghost use Rattle.sms_centre_rows.specs.waiting.Links.{emptied, line_of, put_line, raised};
+ghost use Rattle.sms_centre_rows.specs.waiting.Links.{emptied, link_of, put_link, raised};
 ghost use Rattle.sms_centre_rows.specs.waiting.Trying.{due_at as due_at_of};
 ghost use Rattle.sms_centre_rows.specs.declared.waiting.queued_part.QueuedPart.{QueuedPart as QueuedOf};
 ghost use Rattle.sms_centre_rows.specs.messages.Messages.{part_at};
 ghost use Rattle.sms_centre_rows.specs.reports.Reports.{report_of};
 ghost use Rattle.sms_centre_spec.specs.CentreEvent.{raise as raise_of};
 ghost use Rattle.sms_centre_spec.specs.Draft.{Draft, in_store, on_links, parts_in, reports_in, waiting_in};
-ghost use Rattle.sms_centre_spec.specs.Receiving.{all_due as all_due_of, due_now as due_now_of, empty_line, has_memory as has_memory_of};
+ghost use Rattle.sms_centre_spec.specs.Receiving.{all_due as all_due_of, due_now as due_now_of, empty_link, has_memory as has_memory_of};
 ghost use Rattle.sms_centre_spec.specs.Receiving.{queued_due as queued_due_of, part_due as part_due_of, report_due as report_due_of};
 ghost use Rattle.sms_centre_spec.specs.Transfers.{is_open_part_at, is_open_status_at};
 ghost use Rattle.sms_centre_draft.specs.DueNow.{IsOpenQueued};
@@ -116,7 +116,7 @@ impl<'a> CentreDraft<'a> {
 
     // The handset has memory again.
     fn empty(&mut self, handset: Msisdn) -> Result<(), AllocError>
-        ensures { (d : Draft) → Represents d self.old → OnOk result (Represents (on_links (empty_line handset d.links) d) self.new) }
+        ensures { (d : Draft) → Represents d self.old → OnOk result (Represents (on_links (empty_link handset d.links) d) self.new) }
     {
         self.queues.empty(handset)?;
         Ok(())
@@ -130,10 +130,10 @@ impl<'a> CentreDraft<'a> {
         self.empty(handset)
     }
 
-    // The line of the handset is up.
-    fn raise_line(&mut self, handset: Msisdn) -> Result<(), AllocError>
+    // The link of the handset is up.
+    fn raise_link(&mut self, handset: Msisdn) -> Result<(), AllocError>
         ensures { (d : Draft) → Represents d self.old → OnOk result
-            (Represents (on_links (put_line (raised (line_of handset d.links.lines)) d.links) d) self.new) }
+            (Represents (on_links (put_link (raised (link_of handset d.links.all)) d.links) d) self.new) }
     {
         self.queues.raise(handset)?;
         Ok(())
@@ -144,6 +144,6 @@ impl<'a> CentreDraft<'a> {
         ensures { (d : Draft) → Represents d self.old → OnOk result (Represents (raise_of handset d) self.new) }
     {
         self.due_now(handset)?;
-        self.raise_line(handset)
+        self.raise_link(handset)
     }
 }

@@ -1,7 +1,7 @@
 //! How a transfer to a handset ends (3GPP TS 24.011 8.2.5.4), and what the centre makes of it.
 ghost use Rattle.std.specs.Prelude.{◌≡◌, ℕ, Some, true, IfOk, OnOk};
 ghost use Rattle.sms_centre_rows.specs.messages.Messages.{all_done as all_done_of, message_at};
-ghost use Rattle.sms_centre_rows.specs.waiting.Links.{filled, line_of, put_line};
+ghost use Rattle.sms_centre_rows.specs.waiting.Links.{filled, link_of, put_link};
 ghost use Rattle.sms_centre_rows.specs.waiting.Trying.{finished as finished_of, one_more as one_more_of, tried as tried_of};
 ghost use Rattle.sms_centre_reports.specs.open_reports.Entries.{open_entry, report_entry};
 ghost use Rattle.sms_rows.specs.index.Picked.{pick_of};
@@ -160,7 +160,7 @@ impl<'a> CentreDraft<'a> {
     /// The handset has no memory.
     pub fn fill(&mut self, handset: Msisdn) -> Result<(), AllocError>
         ensures { (d : Draft) → Represents d self.old → OnOk result
-            (Represents (on_links (put_line (filled (line_of handset d.links.lines)) d.links) d) self.new) }
+            (Represents (on_links (put_link (filled (link_of handset d.links.all)) d.links) d) self.new) }
     {
         self.queues.fill(handset)?;
         Ok(())

@@ -19,7 +19,7 @@ abbrev pub with_account : CentreAccount → ℕ → Core
 with_account a now = record {
   rows = first_rows (record { centre = a.address; start = now; first = 1; accounts = a ∷ [] });
   moment = now;
-  lines = [];
+  links = [];
   sessions = [];
 }
 
@@ -34,7 +34,7 @@ is_sound a now address moment =
       rows = first_sound (record { centre = a.address; start = now; first = 1; accounts = a ∷ [] }) setup;
       now = moment;
       moment = omega arith;
-      each_line = λ l among. absurd among;
+      each_link = λ l among. absurd among;
       apart = tt;
       session_keys = tt;
       each_session = λ x among. absurd among;

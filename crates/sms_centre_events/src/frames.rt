@@ -1,6 +1,6 @@
 //! A frame that a handset sends up.
 ghost use Rattle.std.specs.Prelude.{OnOk};
-ghost use Rattle.sms_centre_rows.specs.waiting.Links.{line_of};
+ghost use Rattle.sms_centre_rows.specs.waiting.Links.{link_of};
 ghost use Rattle.sms_centre_spec.specs.CentreEvent.{frame_taken as frame_taken_of, went_up as went_up_of};
 ghost use Rattle.sms_centre_spec.specs.Draft.{Draft};
 ghost use Rattle.sms_centre_events.specs.Knowing.{Knows};
@@ -15,7 +15,7 @@ use sms_centre_transfers::conclude;
 use sms_link::Upward;
 use std::alloc::AllocError;
 
-// What the handset's line passed up.
+// What the handset's link passed up.
 fn went_up(
     draft: &mut CentreDraft<'_>,
     message_index: &MessageIndex,
@@ -51,7 +51,7 @@ pub fn frame_taken(
     tag: Holder,
 ) -> Result<(), AllocError>
     ensures { (d : Draft) → Represents d draft.old → Knows message_index.now reference_index.now d.store
-        → OnOk result (Represents (frame_taken_of octets.now tag (line_of handset d.links.lines) d) draft.new) }
+        → OnOk result (Represents (frame_taken_of octets.now tag (link_of handset d.links.all) d) draft.new) }
 {
     let up = draft.take(handset, octets)?;
     went_up(draft, message_index, reference_index, handset, tag, up)

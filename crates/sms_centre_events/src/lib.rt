@@ -16,7 +16,7 @@
 //! - `binding`: sessions are bound (SMPP v3.4 4.1)
 //! - `finding`: the message that an application asks for
 //! - `frames`: a frame of a handset (3GPP TS 24.011 6 and 8.2)
-//! - `lines`: transfers that end by the loss of the link, or by a timer
+//! - `links`: transfers that end by the loss of the link, or by a timer
 //! - `offering`: what is offered to handsets and applications after an event
 //! - `orders`: what an operator orders of a message
 //! - `questions`: query_sm and cancel_sm (SMPP v3.4 4.8, 4.9)
@@ -35,7 +35,7 @@ mod asking;
 mod binding;
 mod finding;
 mod frames;
-mod lines;
+mod links;
 pub mod offering;
 mod orders;
 mod questions;
@@ -49,7 +49,7 @@ mod walks;
 pub use accounts::account_at;
 pub use binding::bind;
 pub use frames::frame_taken;
-pub use lines::lower;
+pub use links::lower;
 pub use orders::order;
 pub use questions::{cancel, query};
 pub use submitting::submit;

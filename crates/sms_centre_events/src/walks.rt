@@ -6,23 +6,23 @@ ghost use Rattle.sms_centre_spec.specs.CentreEvent.{fired, raise as raise_of, ra
 ghost use Rattle.sms_centre_spec.specs.Draft.{Draft};
 ghost use Rattle.sms_centre_draft.specs.CentreDraft.{Represents};
 
-use crate::lines;
+use crate::links;
 use sms_centre_draft::CentreDraft;
 use sms_centre_draft::walks::laws::{links_rise_where_found, timers_fire_at_those_found};
 use sms_centre_queue::queues::{Concern, ConcernedHandset};
 use std::alloc::AllocError;
 
-// The timers of the lines to these handsets fire that are due, one after the other.
+// The timers of the links to these handsets fire that are due, one after the other.
 fn fire_each(draft: &mut CentreDraft<'_>, stops: &[ConcernedHandset]) -> Result<(), AllocError>
     ensures { (d : Draft) → Represents d draft.old → OnOk result (Represents (walk fire_on stops.now d) draft.new) }
 {
     for stop in stops {
-        lines::fire(draft, stop.number)?;
+        links::fire(draft, stop.number)?;
     }
     Ok(())
 }
 
-/// The timers of all lines fire that are due: first at the handsets that had been given a reference.
+/// The timers of all links fire that are due: first at the handsets that had been given a reference.
 pub(crate) fn fire(draft: &mut CentreDraft<'_>) -> Result<(), AllocError>
     ensures { (d : Draft) → Represents d draft.old → OnOk result (Represents (fired d) draft.new) }
 {
@@ -34,7 +34,7 @@ pub(crate) fn fire(draft: &mut CentreDraft<'_>) -> Result<(), AllocError>
     fire_each(draft, others.as_slice())
 }
 
-// The lines to these handsets are raised, one after the other.
+// The links to these handsets are raised, one after the other.
 fn raise_each(draft: &mut CentreDraft<'_>, stops: &[ConcernedHandset]) -> Result<(), AllocError>
     ensures { (d : Draft) → Represents d draft.old → OnOk result (Represents (walk raise_of stops.now d) draft.new) }
 {

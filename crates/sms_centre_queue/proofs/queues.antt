@@ -16,4 +16,4 @@ pub mod Restoring
 pub mod Walking
 pub mod StopsApart
 pub mod Listing
-pub mod Unlining
+pub mod Unlinking

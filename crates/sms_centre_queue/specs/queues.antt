@@ -1,9 +1,9 @@
 pub mod Keys
-pub mod LineOrder
+pub mod LinkOrder
 pub mod Queues
 pub mod Stops
 pub mod Representing
 pub mod Plan
 pub mod Recovering
 pub mod Walks
-pub mod Unlined
+pub mod Unlinked

@@ -4,7 +4,7 @@
 //! the centre's definition. Whatever handsets, references, links, frames and waiting parts they represent before a call
 //! (`specs/queues/Shown.antt`), they represent the definition's after it. `settle` gives what is committed and sent,
 //! with the memory to put it in. `DeliveryQueues::adopt` puts it in and takes none; the next event then begins with the
-//! changed rows (`laws`). `forget_lines` is for a centre that starts again: everything stays but the links.
+//! changed rows (`laws`). `forget_links` is for a centre that starts again: everything stays but the links.
 //!
 //! Offers, timers and recovery may concern several handsets (`Concern`, `ConcernedHandset`). An index finds those whose link is up,
 //! awaited or has a timer that runs. At a moment at which nothing was left to offer, only the queues that the event

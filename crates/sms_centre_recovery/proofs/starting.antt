@@ -1,3 +1,3 @@
 pub mod QueuedWait
-pub mod LinesNew
+pub mod LinksNew
 pub mod RowsSeen

@@ -8,7 +8,7 @@
 //! |---|---|
 //! | `committing` | the commit of what an event changed |
 //! | `soundness` | the rows as tables, and whether a centre can start with them |
-//! | `starting` | what waits for each handset, its lines, and the moment |
+//! | `starting` | what waits for each handset, its links, and the moment |
 #![tactic(auto)]
 
 mod committing;

@@ -37,7 +37,7 @@ use Rattle.sms_centre_rows.specs.declared.waiting.handset_link.HandsetLink.{Hand
 use Rattle.sms_centre_rows.specs.messages.Messages.{is_pending, message_at}
 use Rattle.sms_centre_rows.specs.messages.SplitReferences.{is_among}
 use Rattle.sms_centre_rows.specs.reports.Receipts.{Bindings, Session, is_account, receives_for, send as send_one, send_all, send_in, send_to, session_for, session_key, waits, window, answered_in, without_id}
-use Rattle.sms_centre_rows.specs.waiting.Links.{line_of, lowered, put_line, turn_line}
+use Rattle.sms_centre_rows.specs.waiting.Links.{link_of, lowered, put_link, turn_link}
 use Rattle.sms_centre_rows.proofs.reports.Serving.{fewest_found}
 use Rattle.sms_centre_spec.specs.CentreEvent.{aged, at_moment, fired, follow, frame_taken, happened, lost, lower, raise, raised, tag_of, went_up}
 use Rattle.sms_centre_spec.specs.Draft.{Core, Draft, Store, answer_with, draft_of, in_store, messages_in, on_links, reports_in, rows_of}
@@ -211,7 +211,7 @@ module _ (R : ℕ → List ℕ → Bool → Type 0) where
   went_up_waits h tag (Some (Ended transfer ending)) d k = k
 
   frame_taken_waits : (octets : List ℕ) (tag : Holder) (l : HandsetLink) (d : Draft) → Waits d → Waits (frame_taken octets tag l d)
-  frame_taken_waits octets tag l d k = went_up_waits l.handset tag (taken octets l.link).out.up (on_links (turn_line l (taken octets l.link) d.links) d) k
+  frame_taken_waits octets tag l d k = went_up_waits l.handset tag (taken octets l.near_end).out.up (on_links (turn_link l (taken octets l.near_end) d.links) d) k
 
   lost_waits : (h : List ℕ) (o : Option Carried) (d : Draft) → Waits d → Waits (lost h o d)
   lost_waits h None d k = k
@@ -219,7 +219,7 @@ module _ (R : ℕ → List ℕ → Bool → Type 0) where
 
   lower_waits : (h : List ℕ) (d : Draft) → Waits d → Waits (lower h d)
   lower_waits h d k =
-      let l : HandsetLink = line_of h d.links.lines in lost_waits l.handset l.link.under_way (on_links (put_line (lowered l) d.links) d) k
+      let l : HandsetLink = link_of h d.links.all in lost_waits l.handset l.near_end.under_way (on_links (put_link (lowered l) d.links) d) k
 
   ticked_waits : (now : ℕ) (d : Draft) → Waits d → Waits (raised (fired (aged (at_moment now d))))
   ticked_waits now d k =
@@ -349,7 +349,7 @@ module _ (R Q : ℕ → List ℕ → Bool → Type 0) (c : Core) (s : IsSoundCor
       let o : Option Session = row_at session_key session c.sessions in
       sends_so Q (answered_by id b o (draft_of c)) (answered_by_waits Q id b session o (draft_of c) refl (begins_so f))
   sends_of (Frame handset octets tag) f =
-      let l : HandsetLink = line_of handset c.lines in
+      let l : HandsetLink = link_of handset c.links in
       sends_so Q (frame_taken octets (tag_of tag) l (draft_of c)) (frame_taken_waits Q octets (tag_of tag) l (draft_of c) (begins_so f))
   sends_of (LinkUp handset) f = sends_so Q (raise handset (draft_of c)) (begins_so f)
   sends_of (LinkDown handset) f = sends_so Q (lower handset (draft_of c)) (lower_waits Q handset (draft_of c) (begins_so f))

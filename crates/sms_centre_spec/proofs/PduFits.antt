@@ -26,7 +26,7 @@ use Rattle.smpp_pdu.specs.declared.status.CommandStatus.{CommandStatus}
 use Rattle.smpp_pdu.specs.declared.status.CommandStatus.TheVariants.{ESME_RINVDSTADR, ESME_RINVESMCLASS, ESME_RINVMSGLEN, ESME_RINVPARLEN, ESME_RINVSRCADR, ESME_ROPTPARNOTALLWD}
 use Rattle.smpp_pdu.specs.declared.tlv.Tlvs.{Tlvs}
 use Rattle.sms_centre_rows.specs.declared.waiting.handset_link.HandsetLink.{HandsetLink}
-use Rattle.sms_centre_rows.specs.waiting.Links.{line_of}
+use Rattle.sms_centre_rows.specs.waiting.Links.{link_of}
 use Rattle.sms_centre_rows.specs.waiting.SoundAllocations.{IsNumber}
 use Rattle.sms_centre_spec.specs.declared.event.CentreEvent.{CentreEvent}
 use Rattle.sms_centre_spec.specs.declared.event.CentreEvent.TheVariants.{Submit, Query, Cancel, Bound, Unbound, DeliverAnswered, Frame, LinkUp, LinkDown, Ordered, Tick}
@@ -47,7 +47,7 @@ use Rattle.sms_base.specs.HandsetNumber.{names_handset}
 use Rattle.sms_intake.specs.declared.smpp_front.Front.{Front}
 use Rattle.sms_intake.specs.SmppIntake.{address_in, address_or_none, are_whole, content_at, due_in, has_sar_lengths, has_too_much, limit_in, from_pdu, handset_named, has_header, header_read, header_size, headed_text, is_ascii, is_empty, plain_text, sar_key, single_behind, source_in, text_in, text_of, whole_of, front_in, judged_in, submission_for}
 use Rattle.sms_intake.specs.PartBodies.{bodies_under}
-use Rattle.sms_centre_rows.proofs.waiting.LinksRepresented.{line_of_handset}
+use Rattle.sms_centre_rows.proofs.waiting.LinksRepresented.{link_of_handset}
 
 -- ---- what it says
 
@@ -173,7 +173,7 @@ event_gives (Bound session account receives) c s is = tt
 event_gives (Unbound session) c s is = tt
 event_gives (DeliverAnswered session id b) c s is = tt
 event_gives (Frame handset octets tag) c s is =
-    let l : HandsetLink = line_of handset c.lines in frame_fits c.rows.setup.accounts l c.moment octets (subst (λ (n : List ℕ). IsNumber n) (sym (line_of_handset handset c.lines)) is.0) is.1
+    let l : HandsetLink = link_of handset c.links in frame_fits c.rows.setup.accounts l c.moment octets (subst (λ (n : List ℕ). IsNumber n) (sym (link_of_handset handset c.links)) is.0) is.1
 event_gives (LinkUp handset) c s is = tt
 event_gives (LinkDown handset) c s is = tt
 event_gives (Ordered order id) c s is = tt

@@ -89,4 +89,4 @@ happened_rests event c =
 pub adopted_is : (event : CentreEvent) (c : Core) → adopted (outcome_of (happened event c)) c ≡ core_of (happened event c)
 adopted_is event c =
     let d : Draft = happened event c in
-    ap (λ (r : Rows). record { rows = r; moment = d.store.moment; lines = d.links.lines; sessions = d.bindings.sessions }) (happened_rests event c)
+    ap (λ (r : Rows). record { rows = r; moment = d.store.moment; links = d.links.all; sessions = d.bindings.sessions }) (happened_rests event c)

@@ -14,10 +14,10 @@ use Rattle.sms_centre_rows.specs.declared.waiting.reference.ReferenceRow.{Refere
 use Rattle.sms_centre_rows.specs.waiting.SoundAllocations.{IsNumber}
 use Rattle.sms_centre_spec.specs.declared.rows.Rows.{Rows}
 use Rattle.sms_centre_spec.specs.declared.setup.Setup.{Setup}
-use Rattle.sms_centre_spec.specs.CentreEvent.{after_messages, after_references, after_reports, lines_awaited, lines_up, moment_of, recovered, started}
-use Rattle.sms_centre_spec.specs.SoundCore.{AreDifferent, AreLines, IsAnswer, IsLine, IsSession, IsSoundCore, IsUnderWay}
+use Rattle.sms_centre_spec.specs.CentreEvent.{after_messages, after_references, after_reports, links_awaited, links_up, moment_of, recovered, started}
+use Rattle.sms_centre_spec.specs.SoundCore.{AreDifferent, AreLinks, IsAnswer, IsLink, IsSession, IsSoundCore, IsUnderWay}
 use Rattle.sms_centre_spec.specs.SoundRows.{IsSetup, IsSound, first_rows}
-use Rattle.sms_centre_spec.proofs.SoundLinks.{line_none}
+use Rattle.sms_centre_spec.proofs.SoundLinks.{link_none}
 
 -- ---- the moment of rows is one
 
@@ -42,30 +42,30 @@ rows_moment rows s =
     (references_moment (after_messages rows.setup.start rows.messages) rows.references (messages_moment rows.setup.start rows.messages s.setup.start s.times.submitted) s.times.given)
     s.times.made
 
--- ---- lines of different handsets, with nothing under way
+-- ---- links of different handsets, with nothing under way
 
 -- each is of one of the handsets, with a new link
 abbrev AreNew : Rows → List (List ℕ) → List HandsetLink → Type 0
-AreNew rows ns ls = (l : HandsetLink) → Among l ls → Among l.handset ns × (l.link ≡ new_link Centre)
+AreNew rows ns ls = (l : HandsetLink) → Among l ls → Among l.handset ns × (l.near_end ≡ new_link Centre)
 
-awaited_new : (rows : Rows) (ns : List (List ℕ)) → AreNew rows ns (lines_awaited ns)
+awaited_new : (rows : Rows) (ns : List (List ℕ)) → AreNew rows ns (links_awaited ns)
 awaited_new rows [] l among = absurd among
 awaited_new rows (n ∷ ns) l among = ⊎_elim
-    (λ (e : l ≡ record { handset = n; is_up = false; is_awaited = true; is_full = false; link = new_link Centre }).
-    (inl (ap (λ (x : HandsetLink). x.handset) e), ap (λ (x : HandsetLink). x.link) e))
-    (λ (a : Among l (lines_awaited ns)). let r = awaited_new rows ns l a in (inr r.0, r.1))
+    (λ (e : l ≡ record { handset = n; is_up = false; is_awaited = true; is_full = false; near_end = new_link Centre }).
+    (inl (ap (λ (x : HandsetLink). x.handset) e), ap (λ (x : HandsetLink). x.near_end) e))
+    (λ (a : Among l (links_awaited ns)). let r = awaited_new rows ns l a in (inr r.0, r.1))
     among
 
-up_new : (rows : Rows) (ns : List (List ℕ)) → AreNew rows ns (lines_up ns)
+up_new : (rows : Rows) (ns : List (List ℕ)) → AreNew rows ns (links_up ns)
 up_new rows [] l among = absurd among
 up_new rows (n ∷ ns) l among = ⊎_elim
-    (λ (e : l ≡ record { handset = n; is_up = true; is_awaited = false; is_full = false; link = new_link Centre }).
-    (inl (ap (λ (x : HandsetLink). x.handset) e), ap (λ (x : HandsetLink). x.link) e))
-    (λ (a : Among l (lines_up ns)). let r = up_new rows ns l a in (inr r.0, r.1))
+    (λ (e : l ≡ record { handset = n; is_up = true; is_awaited = false; is_full = false; near_end = new_link Centre }).
+    (inl (ap (λ (x : HandsetLink). x.handset) e), ap (λ (x : HandsetLink). x.near_end) e))
+    (λ (a : Among l (links_up ns)). let r = up_new rows ns l a in (inr r.0, r.1))
     among
 
-new_lines : (rows : Rows) (ns : List (List ℕ)) (ls : List HandsetLink) → AreNew rows ns ls → ((n : List ℕ) → Among n ns → IsNumber n) → (l : HandsetLink) → Among l ls → IsLine rows l
-new_lines rows ns ls new are l among =
+new_links : (rows : Rows) (ns : List (List ℕ)) (ls : List HandsetLink) → AreNew rows ns ls → ((n : List ℕ) → Among n ns → IsNumber n) → (l : HandsetLink) → Among l ls → IsLink rows l
+new_links rows ns ls new are l among =
     let is = new l among in
     record {
       handset = are l.handset is.0;
@@ -74,13 +74,13 @@ new_lines rows ns ls new are l among =
       answered = subst (λ (x : LinkOf). IsAnswer x.answered) (sym is.1) tt;
     }
 
-awaited_apart : (rows : Rows) (ns : List (List ℕ)) → AreDifferent ns → AreLines (lines_awaited ns)
+awaited_apart : (rows : Rows) (ns : List (List ℕ)) → AreDifferent ns → AreLinks (links_awaited ns)
 awaited_apart rows [] apart = tt
-awaited_apart rows (n ∷ ns) apart = (line_none n (lines_awaited ns) (λ x a e. apart.0 (subst (λ (k : List ℕ). Among k ns) e (awaited_new rows ns x a).0)), awaited_apart rows ns apart.1)
+awaited_apart rows (n ∷ ns) apart = (link_none n (links_awaited ns) (λ x a e. apart.0 (subst (λ (k : List ℕ). Among k ns) e (awaited_new rows ns x a).0)), awaited_apart rows ns apart.1)
 
-up_apart : (rows : Rows) (ns : List (List ℕ)) → AreDifferent ns → AreLines (lines_up ns)
+up_apart : (rows : Rows) (ns : List (List ℕ)) → AreDifferent ns → AreLinks (links_up ns)
 up_apart rows [] apart = tt
-up_apart rows (n ∷ ns) apart = (line_none n (lines_up ns) (λ x a e. apart.0 (subst (λ (k : List ℕ). Among k ns) e (up_new rows ns x a).0)), up_apart rows ns apart.1)
+up_apart rows (n ∷ ns) apart = (link_none n (links_up ns) (λ x a e. apart.0 (subst (λ (k : List ℕ). Among k ns) e (up_new rows ns x a).0)), up_apart rows ns apart.1)
 
 pub recovered_sound : (rows : Rows) (ns : List (List ℕ)) (ss : List Session) → IsSound rows → ((n : List ℕ) → Among n ns → IsNumber n) → AreDifferent ns → Rises session_key ss
     → ((s : Session) → Among s ss → IsSession rows s) → IsSoundCore (recovered rows ns ss)
@@ -88,7 +88,7 @@ recovered_sound rows ns ss sound are apart keys each = record {
   rows = sound;
   now = rows_moment rows sound;
   moment = omega arith;
-  each_line = new_lines rows ns (lines_awaited ns) (awaited_new rows ns) are;
+  each_link = new_links rows ns (links_awaited ns) (awaited_new rows ns) are;
   apart = awaited_apart rows ns apart;
   session_keys = keys;
   each_session = each;
@@ -100,7 +100,7 @@ started_sound rows ns ss sound are apart keys each = record {
   rows = sound;
   now = rows_moment rows sound;
   moment = omega arith;
-  each_line = new_lines rows ns (lines_up ns) (up_new rows ns) are;
+  each_link = new_links rows ns (links_up ns) (up_new rows ns) are;
   apart = up_apart rows ns apart;
   session_keys = keys;
   each_session = each;

@@ -11,7 +11,7 @@ use Rattle.sms_centre_rows.specs.declared.reports.report.ReportKind.{ReportKind}
 use Rattle.sms_centre_rows.specs.reports.Receipts.{session_key}
 use Rattle.sms_centre_rows.specs.reports.Reports.{is_receipt}
 use Rattle.sms_centre_rows.specs.declared.waiting.handset_link.HandsetLink.{HandsetLink}
-use Rattle.sms_centre_rows.specs.waiting.Links.{line_of}
+use Rattle.sms_centre_rows.specs.waiting.Links.{link_of}
 use Rattle.sms_centre_rows.specs.waiting.SoundAllocations.{IsNumber}
 use Rattle.sms_centre_spec.specs.declared.event.CentreEvent.{CentreEvent}
 use Rattle.sms_centre_spec.specs.declared.event.CentreEvent.TheVariants.{Submit, Query, Cancel, Bound, Unbound, DeliverAnswered, Frame, LinkUp, LinkDown, Ordered, Tick}
@@ -27,14 +27,14 @@ use Rattle.sms_centre_spec.specs.Submitted.{EventGives}
 use Rattle.sms_centre_spec.proofs.Keeping.{keeps_same}
 use Rattle.sms_centre_spec.proofs.KeepingSteady.{SoundSince, since_steady}
 use Rattle.sms_centre_spec.proofs.SoundAccepted.{sound_still}
-use Rattle.sms_centre_spec.proofs.SoundLinks.{line_sound}
+use Rattle.sms_centre_spec.proofs.SoundLinks.{link_sound}
 use Rattle.sms_centre_spec.proofs.SoundOffers.{follow_sides}
 use Rattle.sms_centre_spec.proofs.SoundSides.{Sides, answered_sides, bind_sides, cancel_sides, frame_sides, lower_sides, ordered_sides, query_sides, raise_sides, submit_sides, ticked_sides, unbind_sides}
 use Rattle.sms_centre_spec.proofs.SoundStores.{SoundStore, rows_are_past, rows_are_sound, store_sound}
 use Rattle.sms_centre_spec.proofs.SteadyEvents.{steady_event}
 use Rattle.sms_centre_spec.proofs.SteadyTimes.{stand_all}
 
--- ---- lines and sessions that are sound over rows are so over rows that keep what stood there
+-- ---- links and sessions that are sound over rows are so over rows that keep what stood there
 
 module _ (before after : Rows) (k : Keeps before after) where
   sent_still : (h : List ℕ) (reference : ℕ) (o : Holder) → IsSentFor h reference o before → IsSentFor h reference o after
@@ -70,7 +70,7 @@ module _ (before after : Rows) (k : Keeps before after) where
   pub sides_still : (d : Draft) → Sides before d → Sides after d
   sides_still d s = (
     record {
-      each = λ l among. let i = s.0.each l among in record { handset = i.handset; side = i.side; under_way = under_way_still l.handset l.link.under_way i.under_way; answered = i.answered };
+      each = λ l among. let i = s.0.each l among in record { handset = i.handset; side = i.side; under_way = under_way_still l.handset l.near_end.under_way i.under_way; answered = i.answered };
       apart = s.0.apart;
       sent = λ f among. brings_still f.handset f.frame.carried (s.0.sent f among);
     },
@@ -98,7 +98,7 @@ pub begins : (c : Core) → IsSoundCore c → SoundSince c.rows (draft_of c).sto
 begins c s = (store_sound c.rows c.moment s.rows s.now s.moment, keeps_same c.rows)
 
 sides_begin : (c : Core) → IsSoundCore c → Sides c.rows (draft_of c)
-sides_begin c s = (record { each = s.each_line; apart = s.apart; sent = λ f among. absurd among }, record { keys = s.session_keys; each = s.each_session; sent = λ x among. absurd among })
+sides_begin c s = (record { each = s.each_link; apart = s.apart; sent = λ f among. absurd among }, record { keys = s.session_keys; each = s.each_session; sent = λ x among. absurd among })
 
 -- ---- every event
 
@@ -136,9 +136,9 @@ event_after (DeliverAnswered session id b) c s is g =
     followed c (deliver_answered session id b (draft_of c)) (steady_event (SoundSince c.rows) (since_steady c.rows) (DeliverAnswered session id b) c (begins c s) s.now g)
     (answered_sides c.rows session id b (row_at session_key session c.sessions) (draft_of c) refl (sides_begin c s))
 event_after (Frame handset octets tag) c s is g =
-    let line : HandsetLink = line_of handset c.lines in
-    followed c (frame_taken octets (tag_of tag) line (draft_of c)) (steady_event (SoundSince c.rows) (since_steady c.rows) (Frame handset octets tag) c (begins c s) s.now g)
-    (frame_sides c.rows octets (tag_of tag) line (draft_of c) (line_sound c.rows handset (draft_of c).links (sides_begin c s).0 is) (sides_begin c s))
+    let link : HandsetLink = link_of handset c.links in
+    followed c (frame_taken octets (tag_of tag) link (draft_of c)) (steady_event (SoundSince c.rows) (since_steady c.rows) (Frame handset octets tag) c (begins c s) s.now g)
+    (frame_sides c.rows octets (tag_of tag) link (draft_of c) (link_sound c.rows handset (draft_of c).links (sides_begin c s).0 is) (sides_begin c s))
 event_after (LinkUp handset) c s is g =
     followed c (raise handset (draft_of c)) (steady_event (SoundSince c.rows) (since_steady c.rows) (LinkUp handset) c (begins c s) s.now g)
     (raise_sides c.rows handset (draft_of c) is (sides_begin c s))
@@ -157,7 +157,7 @@ core_after c d a = record {
   rows = rows_are_sound d.store a.store.0;
   now = a.store.0.times.now;
   moment = rows_are_past d.store a.store.0;
-  each_line = a.sides.0.each;
+  each_link = a.sides.0.each;
   apart = a.sides.0.apart;
   session_keys = a.sides.1.keys;
   each_session = a.sides.1.each;

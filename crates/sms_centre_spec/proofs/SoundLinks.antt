@@ -1,4 +1,4 @@
--- The lines of a centre and its sessions stay sound over rows that stand, whatever a stage does to them.
+-- The links of a centre and its sessions stay sound over rows that stand, whatever a stage does to them.
 use Rattle.std.proofs.Common.{◌≡◌, ℕ, List, [], ◌∷◌, true, false, Option, Some, None, Result, Ok, Err, refl, sym, ◌∙◌, ap, subst, inl, inr, ⊎_elim}
 use Rattle.std.specs.Prelude.{◌⊎◌, ◌==◌}
 use Rattle.std.specs.Str.{bytes_eq}
@@ -27,91 +27,91 @@ use Rattle.sms_centre_rows.specs.declared.reports.delivery.Delivery.{Delivery}
 use Rattle.sms_centre_rows.specs.reports.Receipts.{Bindings, Session, answered_in, put_session, remove_session, session_key, without_id}
 use Rattle.sms_centre_rows.specs.declared.waiting.handset_link.HandsetLink.{HandsetLink}
 use Rattle.sms_centre_rows.specs.declared.waiting.handset_link.Sent.{Sent}
-use Rattle.sms_centre_rows.specs.waiting.Links.{Links, line_at, line_of, or_new_line, put_line, to_handset, turn_line, turned, with_line}
+use Rattle.sms_centre_rows.specs.waiting.Links.{Links, link_at, link_of, or_new_link_to, put_link, to_handset, turn_link, turned, with_link}
 use Rattle.sms_centre_rows.specs.waiting.SoundAllocations.{IsNumber}
 use Rattle.sms_centre_spec.specs.declared.rows.Rows.{Rows}
-use Rattle.sms_centre_spec.specs.SoundCore.{AreLines, Brings, BringsKind, IsAnswer, IsAnswerKind, IsLine, IsReceiptRow, IsSession, IsUnderWay}
+use Rattle.sms_centre_spec.specs.SoundCore.{AreLinks, Brings, BringsKind, IsAnswer, IsAnswerKind, IsLink, IsReceiptRow, IsSession, IsUnderWay}
 
--- ---- lines by their handsets
+-- ---- links by their handsets
 
-pub line_found : (number : List ℕ) (l : HandsetLink) (ls : List HandsetLink) → line_at number ls ≡ Some l → Among l ls × (l.handset ≡ number)
-line_found number l [] e = absurd cc
-line_found number l (x ∷ xs) e =
-    cond_both (bytes_eq x.handset number) (Some x) (line_at number xs) (λ (o : Option HandsetLink). o ≡ Some l → Among l (x ∷ xs) × (l.handset ≡ number))
+pub link_found : (number : List ℕ) (l : HandsetLink) (ls : List HandsetLink) → link_at number ls ≡ Some l → Among l ls × (l.handset ≡ number)
+link_found number l [] e = absurd cc
+link_found number l (x ∷ xs) e =
+    cond_both (bytes_eq x.handset number) (Some x) (link_at number xs) (λ (o : Option HandsetLink). o ≡ Some l → Among l (x ∷ xs) × (l.handset ≡ number))
     (λ t f. let same : l ≡ x = cc in (inl same, ap (λ (y : HandsetLink). y.handset) same ∙ (bytes_eq-Decides x.handset number).0 t))
-    (λ t f. let rest = line_found number l xs f in (inr rest.0, rest.1))
+    (λ t f. let rest = link_found number l xs f in (inr rest.0, rest.1))
     e
 
-pub line_none : (number : List ℕ) (ls : List HandsetLink) → ((x : HandsetLink) → Among x ls → ¬ (x.handset ≡ number)) → line_at number ls ≡ None
-line_none number ls f = none (line_at number ls) refl
+pub link_none : (number : List ℕ) (ls : List HandsetLink) → ((x : HandsetLink) → Among x ls → ¬ (x.handset ≡ number)) → link_at number ls ≡ None
+link_none number ls f = none (link_at number ls) refl
   where
-    none : (o : Option HandsetLink) → line_at number ls ≡ o → line_at number ls ≡ None
+    none : (o : Option HandsetLink) → link_at number ls ≡ o → link_at number ls ≡ None
     none None e = e
-    none (Some l) e = let at = line_found number l ls e in absurd (f l at.0 at.1)
+    none (Some l) e = let at = link_found number l ls e in absurd (f l at.0 at.1)
 
-none_line : (number : List ℕ) (x : HandsetLink) (ls : List HandsetLink) → line_at number ls ≡ None → Among x ls → x.handset ≡ number → ⊥
-none_line number x [] none among own = among
-none_line number x (l ∷ ls) none among own = ⊎_elim
-    (λ (t : bytes_eq l.handset number ≡ true). let bad : Some l ≡ None = sym (cond-true (bytes_eq l.handset number) (Some l) (line_at number ls) t) ∙ none in absurd cc)
+none_link : (number : List ℕ) (x : HandsetLink) (ls : List HandsetLink) → link_at number ls ≡ None → Among x ls → x.handset ≡ number → ⊥
+none_link number x [] none among own = among
+none_link number x (l ∷ ls) none among own = ⊎_elim
+    (λ (t : bytes_eq l.handset number ≡ true). let bad : Some l ≡ None = sym (cond-true (bytes_eq l.handset number) (Some l) (link_at number ls) t) ∙ none in absurd cc)
     (λ (t : bytes_eq l.handset number ≡ false). ⊎_elim
     (λ (e : x ≡ l).
     let is : bytes_eq l.handset number ≡ true = (bytes_eq-Decides l.handset number).1 (ap (λ (y : HandsetLink). y.handset) (sym e) ∙ own) in
     let bad : true ≡ false = sym is ∙ t in absurd cc)
-    (λ (a : Among x ls). none_line number x ls (sym (cond-false (bytes_eq l.handset number) (Some l) (line_at number ls) t) ∙ none) a own)
+    (λ (a : Among x ls). none_link number x ls (sym (cond-false (bytes_eq l.handset number) (Some l) (link_at number ls) t) ∙ none) a own)
     among)
     (cases_Bool (bytes_eq l.handset number))
 
--- ---- a line takes its place
+-- ---- a link takes its place
 
-pub among_with : (x line : HandsetLink) (ls : List HandsetLink) → Among x (with_line line ls) → (x ≡ line) ⊎ Among x ls
-among_with x line [] among = among
-among_with x line (l ∷ ls) among =
-    cond_both (bytes_eq l.handset line.handset) (line ∷ ls) (l ∷ with_line line ls) (λ (ys : List HandsetLink). Among x ys → (x ≡ line) ⊎ Among x (l ∷ ls))
-    (λ t a. ⊎_elim (λ (e : x ≡ line). inl e) (λ (b : Among x ls). inr (inr b)) a)
+pub among_with : (x link : HandsetLink) (ls : List HandsetLink) → Among x (with_link link ls) → (x ≡ link) ⊎ Among x ls
+among_with x link [] among = among
+among_with x link (l ∷ ls) among =
+    cond_both (bytes_eq l.handset link.handset) (link ∷ ls) (l ∷ with_link link ls) (λ (ys : List HandsetLink). Among x ys → (x ≡ link) ⊎ Among x (l ∷ ls))
+    (λ t a. ⊎_elim (λ (e : x ≡ link). inl e) (λ (b : Among x ls). inr (inr b)) a)
     (λ t a. ⊎_elim
     (λ (e : x ≡ l). inr (inl e))
-    (λ (b : Among x (with_line line ls)). ⊎_elim (λ (e : x ≡ line). inl e) (λ (d : Among x ls). inr (inr d)) (among_with x line ls b))
+    (λ (b : Among x (with_link link ls)). ⊎_elim (λ (e : x ≡ link). inl e) (λ (d : Among x ls). inr (inr d)) (among_with x link ls b))
     a)
     among
 
-apart_with : (line : HandsetLink) (ls : List HandsetLink) → AreLines ls → AreLines (with_line line ls)
-apart_with line [] apart = (refl, tt)
-apart_with line (l ∷ ls) apart =
-    cond_both (bytes_eq l.handset line.handset) (line ∷ ls) (l ∷ with_line line ls) AreLines
-    (λ t. (subst (λ (n : List ℕ). line_at n ls ≡ None) ((bytes_eq-Decides l.handset line.handset).0 t) apart.0, apart.1))
+apart_with : (link : HandsetLink) (ls : List HandsetLink) → AreLinks ls → AreLinks (with_link link ls)
+apart_with link [] apart = (refl, tt)
+apart_with link (l ∷ ls) apart =
+    cond_both (bytes_eq l.handset link.handset) (link ∷ ls) (l ∷ with_link link ls) AreLinks
+    (λ t. (subst (λ (n : List ℕ). link_at n ls ≡ None) ((bytes_eq-Decides l.handset link.handset).0 t) apart.0, apart.1))
     (λ t. (
-      line_none l.handset (with_line line ls) (λ x among e. ⊎_elim
-          (λ (q : x ≡ line).
-          let is : bytes_eq l.handset line.handset ≡ true = (bytes_eq-Decides l.handset line.handset).1 (sym e ∙ ap (λ (y : HandsetLink). y.handset) q) in
+      link_none l.handset (with_link link ls) (λ x among e. ⊎_elim
+          (λ (q : x ≡ link).
+          let is : bytes_eq l.handset link.handset ≡ true = (bytes_eq-Decides l.handset link.handset).1 (sym e ∙ ap (λ (y : HandsetLink). y.handset) q) in
           let bad : true ≡ false = sym is ∙ t in absurd cc)
-          (λ (a : Among x ls). none_line l.handset x ls apart.0 a e)
-          (among_with x line ls among)),
-      apart_with line ls apart.1,
+          (λ (a : Among x ls). none_link l.handset x ls apart.0 a e)
+          (among_with x link ls among)),
+      apart_with link ls apart.1,
     ))
 
--- ---- lines that are sound over rows
+-- ---- links that are sound over rows
 
 pub record SoundLinks (rows : Rows) (links : Links) : Type 0 where
-  pub each : (l : HandsetLink) → Among l links.lines → IsLine rows l
-  pub apart : AreLines links.lines
+  pub each : (l : HandsetLink) → Among l links.all → IsLink rows l
+  pub apart : AreLinks links.all
   -- what was sent so far
   pub sent : (f : Sent) → Among f links.frames → Brings f.handset f.frame.carried rows
 
-pub line_sound : (rows : Rows) (number : List ℕ) (links : Links) → SoundLinks rows links → IsNumber number → IsLine rows (line_of number links.lines)
-line_sound rows number links s is = at (line_at number links.lines) refl
+pub link_sound : (rows : Rows) (number : List ℕ) (links : Links) → SoundLinks rows links → IsNumber number → IsLink rows (link_of number links.all)
+link_sound rows number links s is = at (link_at number links.all) refl
   where
-    at : (o : Option HandsetLink) → line_at number links.lines ≡ o → IsLine rows (or_new_line number o)
+    at : (o : Option HandsetLink) → link_at number links.all ≡ o → IsLink rows (or_new_link_to number o)
     at None e = record { handset = is; side = refl; under_way = tt; answered = tt }
-    at (Some l) e = s.each l (line_found number l links.lines e).0
+    at (Some l) e = s.each l (link_found number l links.all e).0
 
-pub put_sound : (rows : Rows) (line : HandsetLink) (links : Links) → SoundLinks rows links → IsLine rows line → SoundLinks rows (put_line line links)
-put_sound rows line links s is = record {
-  each = λ l among. ⊎_elim (λ (e : l ≡ line). subst (λ (x : HandsetLink). IsLine rows x) (sym e) is) (λ (a : Among l links.lines). s.each l a) (among_with l line links.lines among);
-  apart = apart_with line links.lines s.apart;
+pub put_sound : (rows : Rows) (link : HandsetLink) (links : Links) → SoundLinks rows links → IsLink rows link → SoundLinks rows (put_link link links)
+put_sound rows link links s is = record {
+  each = λ l among. ⊎_elim (λ (e : l ≡ link). subst (λ (x : HandsetLink). IsLink rows x) (sym e) is) (λ (a : Among l links.all). s.each l a) (among_with l link links.all among);
+  apart = apart_with link links.all s.apart;
   sent = s.sent;
 }
 
--- the frames of a turn, to the handset of the line
+-- the frames of a turn, to the handset of the link
 abbrev pub AllBring : Rows → List ℕ → List Outgoing → Type 0
 AllBring rows handset frames = (f : Outgoing) → Among f frames → Brings handset f.carried rows
 
@@ -124,16 +124,16 @@ to_handset_among handset x (f ∷ fs) among = ⊎_elim
     let found : (g : Outgoing) × (Among g (f ∷ fs) × (x ≡ record { handset = handset; frame = g })) = (r.0, (inr r.1.0, r.1.1)) in found)
     among
 
-pub turn_sound : (rows : Rows) (line : HandsetLink) (turn : Turn) (links : Links) → SoundLinks rows links → IsLine rows (turned turn line) → AllBring rows line.handset turn.out.frames → SoundLinks rows (turn_line line turn links)
-turn_sound rows line turn links s is bring = record {
-  each = λ l among. ⊎_elim (λ (e : l ≡ turned turn line). subst (λ (x : HandsetLink). IsLine rows x) (sym e) is) (λ (a : Among l links.lines). s.each l a) (among_with l (turned turn line) links.lines among);
-  apart = apart_with (turned turn line) links.lines s.apart;
+pub turn_sound : (rows : Rows) (link : HandsetLink) (turn : Turn) (links : Links) → SoundLinks rows links → IsLink rows (turned turn link) → AllBring rows link.handset turn.out.frames → SoundLinks rows (turn_link link turn links)
+turn_sound rows link turn links s is bring = record {
+  each = λ l among. ⊎_elim (λ (e : l ≡ turned turn link). subst (λ (x : HandsetLink). IsLink rows x) (sym e) is) (λ (a : Among l links.all). s.each l a) (among_with l (turned turn link) links.all among);
+  apart = apart_with (turned turn link) links.all s.apart;
   sent = λ f among. ⊎_elim
       (λ (a : Among f links.frames). s.sent f a)
-      (λ (a : Among f (to_handset line.handset turn.out.frames)).
-      let r = to_handset_among line.handset f turn.out.frames a in
+      (λ (a : Among f (to_handset link.handset turn.out.frames)).
+      let r = to_handset_among link.handset f turn.out.frames a in
       subst (λ (x : Sent). Brings x.handset x.frame.carried rows) (sym r.1.1) (bring r.0 r.1.0))
-      (among_parts f links.frames (to_handset line.handset turn.out.frames) among);
+      (among_parts f links.frames (to_handset link.handset turn.out.frames) among);
 }
 
 -- ---- what frames of a turn bring
@@ -175,30 +175,30 @@ links_bring rows handset u a (x ∷ xs) is are f among = ⊎_elim
     (λ (b : Among f (from_links u a xs)). links_bring rows handset u a xs is are f b)
     among
 
-pub heard_brings : (rows : Rows) (step : Step) (l : HandsetLink) → IsLine rows l → AllBring rows l.handset (heard step l.link).out.frames
+pub heard_brings : (rows : Rows) (step : Step) (l : HandsetLink) → IsLink rows l → AllBring rows l.handset (heard step l.near_end).out.frames
 heard_brings rows step l is =
-    links_bring rows l.handset l.link.under_way l.link.answered step.out.frames (brings_under_way rows l.handset l.link.under_way is.under_way) (brings_answer rows l.handset l.link.answered is.answered)
+    links_bring rows l.handset l.near_end.under_way l.near_end.answered step.out.frames (brings_under_way rows l.handset l.near_end.under_way is.under_way) (brings_answer rows l.handset l.near_end.answered is.answered)
 
-pub replied_brings : (rows : Rows) (now : ℕ) (kind : Kind) (reference : ℕ) (tag : Holder) (unit : List ℕ) (l : HandsetLink) → IsAnswerKind kind → AllBring rows l.handset (replied now kind reference tag unit l.link).out.frames
+pub replied_brings : (rows : Rows) (now : ℕ) (kind : Kind) (reference : ℕ) (tag : Holder) (unit : List ℕ) (l : HandsetLink) → IsAnswerKind kind → AllBring rows l.handset (replied now kind reference tag unit l.near_end).out.frames
 replied_brings rows now kind reference tag unit l is =
-    cond_both (awaits_reply l.link.links) (answering (of_kind kind reference tag) (reply_step now unit l.link.links) l.link) (still l.link) (λ (t : Turn). AllBring rows l.handset t.out.frames)
-    (λ t. carrying_bring rows l.handset (Some (of_kind kind reference tag)) (reply_step now unit l.link.links).out.frames (brings_answer rows l.handset (Some (of_kind kind reference tag)) is))
+    cond_both (awaits_reply l.near_end.links) (answering (of_kind kind reference tag) (reply_step now unit l.near_end.links) l.near_end) (still l.near_end) (λ (t : Turn). AllBring rows l.handset t.out.frames)
+    (λ t. carrying_bring rows l.handset (Some (of_kind kind reference tag)) (reply_step now unit l.near_end.links).out.frames (brings_answer rows l.handset (Some (of_kind kind reference tag)) is))
     (λ t f among. absurd among)
 
 -- ---- turns that begin nothing
 
-pub heard_line : (rows : Rows) (step : Step) (l : HandsetLink) → IsLine rows l → IsLine rows (turned (heard step l.link) l)
-heard_line rows step l is = record { handset = is.handset; side = is.side; under_way = after step.out.up; answered = is.answered }
+pub heard_link : (rows : Rows) (step : Step) (l : HandsetLink) → IsLink rows l → IsLink rows (turned (heard step l.near_end) l)
+heard_link rows step l is = record { handset = is.handset; side = is.side; under_way = after step.out.up; answered = is.answered }
   where
-    after : (o : Option Up) → IsUnderWay l.handset (still_under_way o l.link.under_way) rows
+    after : (o : Option Up) → IsUnderWay l.handset (still_under_way o l.near_end.under_way) rows
     after None = is.under_way
     after (Some (UnitUp FromOriginator unit)) = is.under_way
     after (Some (UnitUp ToOriginator unit)) = tt
     after (Some Failed) = tt
 
-pub replied_line : (rows : Rows) (now : ℕ) (kind : Kind) (reference : ℕ) (tag : Holder) (unit : List ℕ) (l : HandsetLink) → IsAnswerKind kind → IsLine rows l → IsLine rows (turned (replied now kind reference tag unit l.link) l)
-replied_line rows now kind reference tag unit l answer is =
-    cond_both (awaits_reply l.link.links) (answering (of_kind kind reference tag) (reply_step now unit l.link.links) l.link) (still l.link) (λ (t : Turn). IsLine rows (turned t l))
+pub replied_link : (rows : Rows) (now : ℕ) (kind : Kind) (reference : ℕ) (tag : Holder) (unit : List ℕ) (l : HandsetLink) → IsAnswerKind kind → IsLink rows l → IsLink rows (turned (replied now kind reference tag unit l.near_end) l)
+replied_link rows now kind reference tag unit l answer is =
+    cond_both (awaits_reply l.near_end.links) (answering (of_kind kind reference tag) (reply_step now unit l.near_end.links) l.near_end) (still l.near_end) (λ (t : Turn). IsLink rows (turned t l))
     (λ t. record { handset = is.handset; side = is.side; under_way = is.under_way; answered = answer }) (λ t. record { handset = is.handset; side = is.side; under_way = is.under_way; answered = is.answered })
 
 -- ---- sessions that are sound over rows

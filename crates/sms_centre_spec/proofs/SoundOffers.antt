@@ -1,4 +1,4 @@
--- What follows every event, offers to handsets and receipts in sessions, leaves lines and sessions sound over the rows that stand:
+-- What follows every event, offers to handsets and receipts in sessions, leaves links and sessions sound over the rows that stand:
 -- each offer goes for what waits there, under its reference, and each receipt is one of the rows.
 use Rattle.std.proofs.Common.{◌≡◌, ℕ, List, [], ◌∷◌, ◌++◌, true, false, length, Option, Some, None, refl, sym, ◌∙◌, ap, subst, inl, inr, ⊎_elim, arith}
 use Rattle.std.specs.Prelude.{◌⊎◌, ◌==◌, ◌&&◌, not, nat_le, nat_lt}
@@ -33,16 +33,16 @@ use Rattle.sms_centre_rows.specs.declared.waiting.handset.HandsetRow.{HandsetRow
 use Rattle.sms_centre_rows.specs.declared.waiting.handset_link.HandsetLink.{HandsetLink}
 use Rattle.sms_centre_rows.specs.declared.waiting.queued_part.QueuedPart.{QueuedPart}
 use Rattle.sms_centre_rows.specs.waiting.Keys.{queued_key}
-use Rattle.sms_centre_rows.specs.waiting.Links.{Links, is_ready, line_of, turned}
+use Rattle.sms_centre_rows.specs.waiting.Links.{Links, is_ready, link_of, turned}
 use Rattle.sms_centre_rows.specs.waiting.SoundAllocations.{IsNumber}
 use Rattle.sms_centre_rows.specs.waiting.Waiting.{if_due, is_due, next, preceding, precedes, waits_beside}
 use Rattle.sms_centre_spec.specs.declared.rows.Rows.{Rows}
 use Rattle.sms_centre_spec.specs.Draft.{Draft, Store, handsets_in, messages_in, parts_in, priorities_in, reports_in, rows_of, waiting_in}
 use Rattle.sms_centre_spec.specs.CentreEvent.{follow}
 use Rattle.sms_centre_spec.specs.Offering.{holder_of, is_made, offer_all, offer_among, offer_queued, offer_on, offer_to, read_of, unit_of}
-use Rattle.sms_centre_spec.specs.SoundCore.{IsLine, IsReceiptRow, IsSentFor}
+use Rattle.sms_centre_spec.specs.SoundCore.{IsLink, IsReceiptRow, IsSentFor}
 use Rattle.sms_centre_spec.specs.Consistent.{IsConsistent}
-use Rattle.sms_centre_spec.proofs.SoundLinks.{AllBring, SoundLinks, SoundBindings, carrying_bring, line_sound, session_put, turn_sound}
+use Rattle.sms_centre_spec.proofs.SoundLinks.{AllBring, SoundLinks, SoundBindings, carrying_bring, link_sound, session_put, turn_sound}
 use Rattle.sms_centre_spec.proofs.SoundSides.{Sides}
 
 -- ---- what is next waits there
@@ -136,41 +136,41 @@ queued_sent h l s k among =
 
 -- ---- offers
 
-offered_line : (s : Store) (line : HandsetLink) (l : QueuedPart) (unit : List ℕ) → IsLine (rows_of s) line → IsSentFor line.handset l.reference (holder_of l) (rows_of s)
-    → IsLine (rows_of s) (turned (begun s.moment l.reference (holder_of l) unit line.link) line)
-offered_line s line l unit is sent =
-    cond_both (is_busy line.link.links) (still line.link) (started (of_kind Data l.reference (holder_of l)) (begin_step s.moment unit line.link.links) line.link) (λ (t : Turn). IsLine (rows_of s) (turned t line))
+offered_link : (s : Store) (link : HandsetLink) (l : QueuedPart) (unit : List ℕ) → IsLink (rows_of s) link → IsSentFor link.handset l.reference (holder_of l) (rows_of s)
+    → IsLink (rows_of s) (turned (begun s.moment l.reference (holder_of l) unit link.near_end) link)
+offered_link s link l unit is sent =
+    cond_both (is_busy link.near_end.links) (still link.near_end) (started (of_kind Data l.reference (holder_of l)) (begin_step s.moment unit link.near_end.links) link.near_end) (λ (t : Turn). IsLink (rows_of s) (turned t link))
     (λ t. record { handset = is.handset; side = is.side; under_way = is.under_way; answered = is.answered })
     (λ t. record { handset = is.handset; side = is.side; under_way = (refl, sent); answered = is.answered })
 
-offered_brings : (s : Store) (line : HandsetLink) (l : QueuedPart) (unit : List ℕ) → IsSentFor line.handset l.reference (holder_of l) (rows_of s)
-    → AllBring (rows_of s) line.handset (begun s.moment l.reference (holder_of l) unit line.link).out.frames
-offered_brings s line l unit sent =
-    cond_both (is_busy line.link.links) (still line.link) (started (of_kind Data l.reference (holder_of l)) (begin_step s.moment unit line.link.links) line.link) (λ (t : Turn). AllBring (rows_of s) line.handset t.out.frames)
+offered_brings : (s : Store) (link : HandsetLink) (l : QueuedPart) (unit : List ℕ) → IsSentFor link.handset l.reference (holder_of l) (rows_of s)
+    → AllBring (rows_of s) link.handset (begun s.moment l.reference (holder_of l) unit link.near_end).out.frames
+offered_brings s link l unit sent =
+    cond_both (is_busy link.near_end.links) (still link.near_end) (started (of_kind Data l.reference (holder_of l)) (begin_step s.moment unit link.near_end.links) link.near_end) (λ (t : Turn). AllBring (rows_of s) link.handset t.out.frames)
     (λ t f among. absurd among)
-    (λ t. carrying_bring (rows_of s) line.handset (Some (of_kind Data l.reference (holder_of l))) (begin_step s.moment unit line.link.links).out.frames sent)
+    (λ t. carrying_bring (rows_of s) link.handset (Some (of_kind Data l.reference (holder_of l))) (begin_step s.moment unit link.near_end.links).out.frames sent)
 
 read_sound : (s : Store) (l : QueuedPart) (links : Links) → SoundLinks (rows_of s) links → SoundLinks (rows_of s) (read_of l s links)
 read_sound s l links k = cond_both (is_made l s) links _ (λ (a : Links). SoundLinks (rows_of s) a) (λ t. k) (λ t. record { each = k.each; apart = k.apart; sent = k.sent })
 
-queued_offered : (s : Store) (line : HandsetLink) (o : Option QueuedPart) (links : Links) → IsConsistent s → SoundLinks (rows_of s) links → IsLine (rows_of s) line → next s.moment (waiting_in line.handset s) ≡ o
-    → SoundLinks (rows_of s) (offer_queued line (waiting_in line.handset s) o s links)
-queued_offered s line None links k a is e = a
-queued_offered s line (Some l) links k a is e =
-    let unit : List ℕ = unit_of l (waits_beside s.moment l (waiting_in line.handset s)) s in
-    let sent : IsSentFor line.handset l.reference (holder_of l) (rows_of s) = queued_sent line.handset l s k (next_waits s.moment l (waiting_in line.handset s) e) in
-    turn_sound (rows_of s) line (begun s.moment l.reference (holder_of l) unit line.link) (read_of l s links) (read_sound s l links a) (offered_line s line l unit is sent) (offered_brings s line l unit sent)
+queued_offered : (s : Store) (link : HandsetLink) (o : Option QueuedPart) (links : Links) → IsConsistent s → SoundLinks (rows_of s) links → IsLink (rows_of s) link → next s.moment (waiting_in link.handset s) ≡ o
+    → SoundLinks (rows_of s) (offer_queued link (waiting_in link.handset s) o s links)
+queued_offered s link None links k a is e = a
+queued_offered s link (Some l) links k a is e =
+    let unit : List ℕ = unit_of l (waits_beside s.moment l (waiting_in link.handset s)) s in
+    let sent : IsSentFor link.handset l.reference (holder_of l) (rows_of s) = queued_sent link.handset l s k (next_waits s.moment l (waiting_in link.handset s) e) in
+    turn_sound (rows_of s) link (begun s.moment l.reference (holder_of l) unit link.near_end) (read_of l s links) (read_sound s l links a) (offered_link s link l unit is sent) (offered_brings s link l unit sent)
 
-line_offered : (s : Store) (line : HandsetLink) (links : Links) → IsConsistent s → SoundLinks (rows_of s) links → IsLine (rows_of s) line → SoundLinks (rows_of s) (offer_on line s links)
-line_offered s line links k a is =
-    cond_both (is_ready line) (offer_among line (waiting_in line.handset s) s links) links (λ (x : Links). SoundLinks (rows_of s) x)
-    (λ t. queued_offered s line (next s.moment (waiting_in line.handset s)) links k a is refl) (λ t. a)
+link_offered : (s : Store) (link : HandsetLink) (links : Links) → IsConsistent s → SoundLinks (rows_of s) links → IsLink (rows_of s) link → SoundLinks (rows_of s) (offer_on link s links)
+link_offered s link links k a is =
+    cond_both (is_ready link) (offer_among link (waiting_in link.handset s) s links) links (λ (x : Links). SoundLinks (rows_of s) x)
+    (λ t. queued_offered s link (next s.moment (waiting_in link.handset s)) links k a is refl) (λ t. a)
 
 all_offered : (s : Store) (hs : List HandsetRow) (links : Links) → IsConsistent s → ((h : HandsetRow) → Among h hs → IsNumber h.number) → SoundLinks (rows_of s) links → SoundLinks (rows_of s) (offer_all hs s links)
 all_offered s [] links k are a = a
 all_offered s (h ∷ hs) links k are a =
     all_offered s hs (offer_to h.number s links) k (λ x m. are x (inr m))
-    (line_offered s (line_of h.number links.lines) links k a (line_sound (rows_of s) h.number links a (are h (inl refl))))
+    (link_offered s (link_of h.number links.all) links k a (link_sound (rows_of s) h.number links a (are h (inl refl))))
 
 -- ---- receipts
 

@@ -1,4 +1,4 @@
--- The stages of an event leave lines and sessions sound over the rows that it began with; only the offers and receipts that follow
+-- The stages of an event leave links and sessions sound over the rows that it began with; only the offers and receipts that follow
 -- rest on the rows that it leaves.
 use Rattle.std.proofs.Common.{◌≡◌, ℕ, List, [], ◌∷◌, Bool, Option, Some, None, Result, Ok, Err, refl, inl, inr}
 use Rattle.std.specs.Prelude.{if◌then◌else◌}
@@ -33,7 +33,7 @@ use Rattle.sms_centre_rows.specs.messages.SplitReferences.{is_among}
 use Rattle.sms_centre_rows.specs.reports.Receipts.{Session, session_key}
 use Rattle.sms_centre_rows.specs.declared.waiting.handset.HandsetRow.{HandsetRow}
 use Rattle.sms_centre_rows.specs.declared.waiting.handset_link.HandsetLink.{HandsetLink}
-use Rattle.sms_centre_rows.specs.waiting.Links.{Links, emptied, filled, line_at, line_of, lowered, put_line, raised as raised_line, turn_line}
+use Rattle.sms_centre_rows.specs.waiting.Links.{Links, emptied, filled, link_at, link_of, lowered, put_link, raised as raised_link, turn_link}
 use Rattle.sms_centre_rows.specs.waiting.References.{handset_at}
 use Rattle.sms_centre_rows.specs.waiting.SoundAllocations.{IsNumber}
 use Rattle.sms_intake.specs.declared.refusal.SubmitRefusal.{SubmitRefusal}
@@ -48,7 +48,7 @@ use Rattle.sms_centre_spec.specs.Numbers.{id_in}
 use Rattle.sms_intake.specs.SmppIntake.{from_pdu, source_in, is_empty}
 use Rattle.sms_centre_spec.specs.Shares.{unless_too_much}
 use Rattle.sms_centre_spec.specs.Submitting.{accept, is_reference_taken}
-use Rattle.sms_centre_spec.specs.Transfers.{conclude, line_ended, verdict_on}
+use Rattle.sms_centre_spec.specs.Transfers.{conclude, link_ended, verdict_on}
 use Rattle.sms_centre_spec.specs.Receiving.{is_duplicate, memory_available, refuse, reply, submit_accepted, submit_received as submission_from, unit_received}
 use Rattle.sms_relay.specs.Rejecting.{reference_octet}
 use Rattle.sms_centre_spec.specs.declared.order.Order.{Order}
@@ -59,34 +59,34 @@ use Rattle.sms_centre_spec.specs.Sessions.{answered_by, bind, bound_as, session_
 use Rattle.sms_centre_spec.specs.CentreEvent.{aged, at_moment, fire_at, fire_mentioned, fire_others, fired, frame_taken, is_mentioned, lost, lower, raise, raise_all, raised, timed_out, went_up}
 use Rattle.sms_centre_spec.specs.Draft.{Draft, Store, handsets_in, messages_in, on_links, rows_of}
 use Rattle.sms_centre_spec.specs.MessageNumbers.{next_number}
-use Rattle.sms_centre_spec.specs.SoundCore.{IsAnswerKind, IsLine}
-use Rattle.sms_centre_spec.proofs.SoundLinks.{SoundLinks, SoundBindings, heard_brings, heard_line, line_found, line_sound, put_sound, replied_brings, replied_line, session_answered, session_put, session_removed, turn_sound}
+use Rattle.sms_centre_spec.specs.SoundCore.{IsAnswerKind, IsLink}
+use Rattle.sms_centre_spec.proofs.SoundLinks.{SoundLinks, SoundBindings, heard_brings, heard_link, link_found, link_sound, put_sound, replied_brings, replied_link, session_answered, session_put, session_removed, turn_sound}
 
--- lines and sessions are sound over the rows
+-- links and sessions are sound over the rows
 abbrev pub Sides : Rows → Draft → Type 0
 Sides rows d = SoundLinks rows d.links × SoundBindings rows d.bindings
 
 module _ (rows : Rows) where
   -- ---- how a transfer ends
 
-  line_ended_sides : (v : Verdict) (h : List ℕ) (links : Links) → SoundLinks rows links → IsNumber h → SoundLinks rows (line_ended v h links)
-  line_ended_sides Settled h links s is = s
-  line_ended_sides HandsetFull h links s is =
-      let l = line_sound rows h links s is in put_sound rows (filled (line_of h links.lines)) links s (record { handset = l.handset; side = l.side; under_way = l.under_way; answered = l.answered })
-  line_ended_sides Again h links s is = s
-  line_ended_sides Refused h links s is = s
-  line_ended_sides Late h links s is = s
+  link_ended_sides : (v : Verdict) (h : List ℕ) (links : Links) → SoundLinks rows links → IsNumber h → SoundLinks rows (link_ended v h links)
+  link_ended_sides Settled h links s is = s
+  link_ended_sides HandsetFull h links s is =
+      let l = link_sound rows h links s is in put_sound rows (filled (link_of h links.all)) links s (record { handset = l.handset; side = l.side; under_way = l.under_way; answered = l.answered })
+  link_ended_sides Again h links s is = s
+  link_ended_sides Refused h links s is = s
+  link_ended_sides Late h links s is = s
 
   conclude_sides : (h : List ℕ) (t : Carried) (e : Ending) (d : Draft) → IsNumber h → Sides rows d → Sides rows (conclude h t e d)
-  conclude_sides h t e d is k = (line_ended_sides (verdict_on t.tag e d.store) h d.links k.0 is, k.1)
+  conclude_sides h t e d is k = (link_ended_sides (verdict_on t.tag e d.store) h d.links k.0 is, k.1)
 
   -- ---- units that open a transaction
 
   reply_sides : (h : List ℕ) (kind : Kind) (n : ℕ) (tag : Holder) (unit : List ℕ) (d : Draft) → IsAnswerKind kind → IsNumber h → Sides rows d → Sides rows (reply h kind n tag unit d)
   reply_sides h kind n tag unit d answer is k =
-      let line : HandsetLink = line_of h d.links.lines in (
-        turn_sound rows line (replied d.store.moment kind n tag unit line.link) d.links k.0 (replied_line rows d.store.moment kind n tag unit line answer (line_sound rows h d.links k.0 is))
-            (replied_brings rows d.store.moment kind n tag unit line answer),
+      let link : HandsetLink = link_of h d.links.all in (
+        turn_sound rows link (replied d.store.moment kind n tag unit link.near_end) d.links k.0 (replied_link rows d.store.moment kind n tag unit link answer (link_sound rows h d.links k.0 is))
+            (replied_brings rows d.store.moment kind n tag unit link answer),
         k.1,
       )
 
@@ -107,8 +107,8 @@ module _ (rows : Rows) where
   memory_sides h n tag d is k =
       let e : Draft = reply h Ack n tag (ack_down n None) d in
       let s = reply_sides h Ack n tag (ack_down n None) d tt is k in
-      let l = line_sound rows h e.links s.0 is in
-      (put_sound rows (emptied (line_of h e.links.lines)) e.links s.0 (record { handset = l.handset; side = l.side; under_way = l.under_way; answered = l.answered }), s.1)
+      let l = link_sound rows h e.links s.0 is in
+      (put_sound rows (emptied (link_of h e.links.all)) e.links s.0 (record { handset = l.handset; side = l.side; under_way = l.under_way; answered = l.answered }), s.1)
 
   unit_sides : (h : List ℕ) (tag : Holder) (unit : List ℕ) (u : Result Rp RelayFault) (d : Draft) → IsNumber h → Sides rows d → Sides rows (unit_received h tag unit u d)
   unit_sides h tag unit (Ok (DataUnit r z t)) d is k = submission_sides h r tag (from_read d.store.setup.accounts h d.store.moment (tpdu_up_at InData t)) d is k
@@ -124,15 +124,15 @@ module _ (rows : Rows) where
   up_sides h tag (Some (Opened unit)) d is k = unit_sides h tag unit (up_at unit) d is k
   up_sides h tag (Some (Ended transfer ending)) d is k = conclude_sides h transfer ending d is k
 
-  pub frame_sides : (octets : List ℕ) (tag : Holder) (l : HandsetLink) (d : Draft) → IsLine rows l → Sides rows d → Sides rows (frame_taken octets tag l d)
+  pub frame_sides : (octets : List ℕ) (tag : Holder) (l : HandsetLink) (d : Draft) → IsLink rows l → Sides rows d → Sides rows (frame_taken octets tag l d)
   frame_sides octets tag l d is k =
-      up_sides l.handset tag (taken octets l.link).out.up (on_links (turn_line l (taken octets l.link) d.links) d) is.handset
-      (turn_sound rows l (taken octets l.link) d.links k.0 (heard_line rows (take_step octets l.link.links) l is) (heard_brings rows (take_step octets l.link.links) l is), k.1)
+      up_sides l.handset tag (taken octets l.near_end).out.up (on_links (turn_link l (taken octets l.near_end) d.links) d) is.handset
+      (turn_sound rows l (taken octets l.near_end) d.links k.0 (heard_link rows (take_step octets l.near_end.links) l is) (heard_brings rows (take_step octets l.near_end.links) l is), k.1)
 
   pub raise_sides : (h : List ℕ) (d : Draft) → IsNumber h → Sides rows d → Sides rows (raise h d)
   raise_sides h d is k =
-      let l = line_sound rows h d.links k.0 is in
-      (put_sound rows (raised_line (line_of h d.links.lines)) d.links k.0 (record { handset = l.handset; side = l.side; under_way = l.under_way; answered = l.answered }), k.1)
+      let l = link_sound rows h d.links k.0 is in
+      (put_sound rows (raised_link (link_of h d.links.all)) d.links k.0 (record { handset = l.handset; side = l.side; under_way = l.under_way; answered = l.answered }), k.1)
 
   lost_sides : (h : List ℕ) (o : Option Carried) (d : Draft) → IsNumber h → Sides rows d → Sides rows (lost h o d)
   lost_sides h None d is k = k
@@ -140,9 +140,9 @@ module _ (rows : Rows) where
 
   pub lower_sides : (h : List ℕ) (d : Draft) → IsNumber h → Sides rows d → Sides rows (lower h d)
   lower_sides h d is k =
-      let l : HandsetLink = line_of h d.links.lines in
-      let s = line_sound rows h d.links k.0 is in
-      lost_sides l.handset l.link.under_way (on_links (put_line (lowered l) d.links) d) s.handset
+      let l : HandsetLink = link_of h d.links.all in
+      let s = link_sound rows h d.links k.0 is in
+      lost_sides l.handset l.near_end.under_way (on_links (put_link (lowered l) d.links) d) s.handset
       (put_sound rows (lowered l) d.links k.0 (record { handset = s.handset; side = refl; under_way = tt; answered = tt }), k.1)
 
   -- ---- a tick
@@ -152,22 +152,22 @@ module _ (rows : Rows) where
   timed_out_sides h (Some (Opened unit)) d is k = k
   timed_out_sides h (Some (Ended transfer ending)) d is k = conclude_sides h transfer ending d is k
 
-  fire_at_sides : (number : List ℕ) (o : Option HandsetLink) (d : Draft) → line_at number d.links.lines ≡ o → Sides rows d → Sides rows (fire_at o d)
+  fire_at_sides : (number : List ℕ) (o : Option HandsetLink) (d : Draft) → link_at number d.links.all ≡ o → Sides rows d → Sides rows (fire_at o d)
   fire_at_sides number None d e k = k
   fire_at_sides number (Some l) d e k =
-      let is : IsLine rows l = k.0.each l (line_found number l d.links.lines e).0 in
-      timed_out_sides l.handset (fired_link d.store.moment l.link).out.up (on_links (turn_line l (fired_link d.store.moment l.link) d.links) d) is.handset
-      (turn_sound rows l (fired_link d.store.moment l.link) d.links k.0 (heard_line rows (fire_step d.store.moment l.link.links) l is) (heard_brings rows (fire_step d.store.moment l.link.links) l is), k.1)
+      let is : IsLink rows l = k.0.each l (link_found number l d.links.all e).0 in
+      timed_out_sides l.handset (fired_link d.store.moment l.near_end).out.up (on_links (turn_link l (fired_link d.store.moment l.near_end) d.links) d) is.handset
+      (turn_sound rows l (fired_link d.store.moment l.near_end) d.links k.0 (heard_link rows (fire_step d.store.moment l.near_end.links) l is) (heard_brings rows (fire_step d.store.moment l.near_end.links) l is), k.1)
 
   fire_mentioned_sides : (hs : List HandsetRow) (d : Draft) → Sides rows d → Sides rows (fire_mentioned hs d)
   fire_mentioned_sides [] d k = k
   fire_mentioned_sides (h ∷ hs) d k =
-      let o : Option HandsetLink = line_at h.number d.links.lines in fire_mentioned_sides hs (fire_at o d) (fire_at_sides h.number o d refl k)
+      let o : Option HandsetLink = link_at h.number d.links.all in fire_mentioned_sides hs (fire_at o d) (fire_at_sides h.number o d refl k)
 
   fire_others_sides : (hs : List HandsetRow) (ls : List HandsetLink) (d : Draft) → Sides rows d → Sides rows (fire_others hs ls d)
   fire_others_sides hs [] d k = k
   fire_others_sides hs (l ∷ ls) d k =
-      let o : Option HandsetLink = line_at l.handset d.links.lines in
+      let o : Option HandsetLink = link_at l.handset d.links.all in
       fire_others_sides hs ls (if is_mentioned (handset_at l.handset hs) then d else fire_at o d)
       (cond_both (is_mentioned (handset_at l.handset hs)) d (fire_at o d) (λ (e : Draft). Sides rows e) (λ t. k) (λ t. fire_at_sides l.handset o d refl k))
 
@@ -175,7 +175,7 @@ module _ (rows : Rows) where
   fired_sides d k =
       let hs : List HandsetRow = handsets_in d.store in
       let e : Draft = fire_mentioned hs d in
-      fire_others_sides hs d.links.lines e (fire_mentioned_sides hs d k)
+      fire_others_sides hs d.links.all e (fire_mentioned_sides hs d k)
 
   raise_all_sides : (ls : List HandsetLink) (d : Draft) → ((l : HandsetLink) → Among l ls → IsNumber l.handset) → Sides rows d → Sides rows (raise_all ls d)
   raise_all_sides [] d are k = k
@@ -187,7 +187,7 @@ module _ (rows : Rows) where
   ticked_sides now d k =
       let e : Draft = fired (aged (at_moment now d)) in
       let s = fired_sides (aged (at_moment now d)) k in
-      raise_all_sides e.links.lines e (λ l among. (s.0.each l among).handset) s
+      raise_all_sides e.links.all e (λ l among. (s.0.each l among).handset) s
 
   -- ---- sessions
 

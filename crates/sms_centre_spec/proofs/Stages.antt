@@ -1,5 +1,5 @@
 -- What every move of a store keeps, every event keeps: a fact of stores that the moves keep is carried through all stages.
--- Stages of lines and of sessions leave the store, which is by computing.
+-- Stages of links and of sessions leave the store, which is by computing.
 use Rattle.std.proofs.Common.{ℕ, ◌+◌, List, [], ◌∷◌, Bool, false, Option, Some, None, Result, Ok, Err}
 use Rattle.std.proofs.lemmas.Bool.{cond_both}
 use Rattle.std.specs.Prelude.{nat_le, ◌==◌, ◌&&◌, if◌then◌else◌}
@@ -39,7 +39,7 @@ use Rattle.sms_centre_rows.specs.declared.waiting.handset.HandsetRow.{HandsetRow
 use Rattle.sms_centre_rows.specs.declared.waiting.handset_link.HandsetLink.{HandsetLink}
 use Rattle.sms_centre_rows.specs.declared.waiting.queued_part.QueuedPart.{QueuedPart}
 use Rattle.sms_centre_rows.specs.declared.waiting.progress.Progress.{Progress}
-use Rattle.sms_centre_rows.specs.waiting.Links.{line_of, lowered, put_line, turn_line}
+use Rattle.sms_centre_rows.specs.waiting.Links.{link_of, lowered, put_link, turn_link}
 use Rattle.sms_centre_rows.specs.waiting.References.{handset_of}
 use Rattle.sms_centre_rows.specs.waiting.Revisions.{Revised}
 use Rattle.sms_centre_rows.specs.waiting.Trying.{due_at, later}
@@ -256,10 +256,10 @@ module _ (P : Store → Type 0) (c : Closed P) where
   went_up_keeps h tag (Some (Ended transfer ending)) d k = conclude_keeps h transfer ending d k
 
   pub frame_taken_keeps : (octets : List ℕ) (tag : Holder) (l : HandsetLink) (d : Draft) → P d.store → P (frame_taken octets tag l d).store
-  frame_taken_keeps octets tag l d k = went_up_keeps l.handset tag (taken octets l.link).out.up (on_links (turn_line l (taken octets l.link) d.links) d) k
+  frame_taken_keeps octets tag l d k = went_up_keeps l.handset tag (taken octets l.near_end).out.up (on_links (turn_link l (taken octets l.near_end) d.links) d) k
 
   pub raise_keeps : (h : List ℕ) (d : Draft) → P d.store → P (raise h d).store
-  raise_keeps h d k = due_now_keeps (line_of h d.links.lines).handset d.store k
+  raise_keeps h d k = due_now_keeps (link_of h d.links.all).handset d.store k
 
   lost_keeps : (h : List ℕ) (o : Option Carried) (d : Draft) → P d.store → P (lost h o d).store
   lost_keeps h None d k = k
@@ -267,7 +267,7 @@ module _ (P : Store → Type 0) (c : Closed P) where
 
   pub lower_keeps : (h : List ℕ) (d : Draft) → P d.store → P (lower h d).store
   lower_keeps h d k =
-      let l : HandsetLink = line_of h d.links.lines in lost_keeps l.handset l.link.under_way (on_links (put_line (lowered l) d.links) d) k
+      let l : HandsetLink = link_of h d.links.all in lost_keeps l.handset l.near_end.under_way (on_links (put_link (lowered l) d.links) d) k
 
   -- ---- a tick
 
@@ -388,7 +388,7 @@ module _ (P : Store → Type 0) (c : Closed P) where
   happened_keeps (Bound session account receives) core k = bind_keeps session account receives (draft_of core) k
   happened_keeps (Unbound session) core k = unbind_keeps session (draft_of core) k
   happened_keeps (DeliverAnswered session id b) core k = answered_by_keeps id b (row_at session_key session core.sessions) (draft_of core) k
-  happened_keeps (Frame handset octets tag) core k = frame_taken_keeps octets (tag_of tag) (line_of handset core.lines) (draft_of core) k
+  happened_keeps (Frame handset octets tag) core k = frame_taken_keeps octets (tag_of tag) (link_of handset core.links) (draft_of core) k
   happened_keeps (LinkUp handset) core k = raise_keeps handset (draft_of core) k
   happened_keeps (LinkDown handset) core k = lower_keeps handset (draft_of core) k
   happened_keeps (Ordered order id) core k = ordered_keeps order id (draft_of core) k

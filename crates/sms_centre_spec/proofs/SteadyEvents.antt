@@ -28,7 +28,7 @@ use Rattle.sms_centre_rows.specs.messages.Messages.{is_pending, message_at}
 use Rattle.sms_centre_rows.specs.messages.SplitReferences.{is_among}
 use Rattle.sms_centre_rows.specs.reports.Receipts.{Session, session_key}
 use Rattle.sms_centre_rows.specs.declared.waiting.handset_link.HandsetLink.{HandsetLink}
-use Rattle.sms_centre_rows.specs.waiting.Links.{line_of, lowered, put_line, turn_line}
+use Rattle.sms_centre_rows.specs.waiting.Links.{link_of, lowered, put_link, turn_link}
 use Rattle.sms_intake.specs.HandsetIntake.{from_read}
 use Rattle.sms_centre_spec.specs.declared.event.CentreEvent.{CentreEvent}
 use Rattle.sms_centre_spec.specs.declared.event.CentreEvent.TheVariants.{Submit, Query, Cancel, Bound, Unbound, DeliverAnswered, Frame, LinkUp, LinkDown, Ordered, Tick}
@@ -68,7 +68,7 @@ module _ (P : Store → Type 0) (c : IsFirm P) where
   -- ---- links
 
   raise_steady : (h : List ℕ) (d : Draft) → P d.store → P (raise h d).store
-  raise_steady h d k = due_now_firm P c (line_of h d.links.lines).handset d.store k
+  raise_steady h d k = due_now_firm P c (link_of h d.links.all).handset d.store k
 
   lost_steady : (h : List ℕ) (o : Option Carried) (d : Draft) → P d.store → P (lost h o d).store
   lost_steady h None d k = k
@@ -76,7 +76,7 @@ module _ (P : Store → Type 0) (c : IsFirm P) where
 
   lower_steady : (h : List ℕ) (d : Draft) → P d.store → P (lower h d).store
   lower_steady h d k =
-      let l : HandsetLink = line_of h d.links.lines in lost_steady l.handset l.link.under_way (on_links (put_line (lowered l) d.links) d) k
+      let l : HandsetLink = link_of h d.links.all in lost_steady l.handset l.near_end.under_way (on_links (put_link (lowered l) d.links) d) k
 
   -- ---- a tick
 
@@ -176,8 +176,8 @@ module _ (P : Store → Type 0) (c : IsFirm P) where
     went_up_steady h tag (Some (Opened unit)) d k g = unit_received_steady h tag unit (up_at unit) d k g
     went_up_steady h tag (Some (Ended transfer ending)) d k g = also (conclude h transfer ending d).store (conclude_steady h transfer ending d k)
 
-    frame_taken_steady : (octets : List ℕ) (tag : Holder) (l : HandsetLink) (d : Draft) → P d.store → UpGives d.store.setup.accounts l.handset d.store.moment (taken octets l.link).out.up → Q (frame_taken octets tag l d).store
-    frame_taken_steady octets tag l d k g = went_up_steady l.handset tag (taken octets l.link).out.up (on_links (turn_line l (taken octets l.link) d.links) d) k g
+    frame_taken_steady : (octets : List ℕ) (tag : Holder) (l : HandsetLink) (d : Draft) → P d.store → UpGives d.store.setup.accounts l.handset d.store.moment (taken octets l.near_end).out.up → Q (frame_taken octets tag l d).store
+    frame_taken_steady octets tag l d k g = went_up_steady l.handset tag (taken octets l.near_end).out.up (on_links (turn_link l (taken octets l.near_end) d.links) d) k g
 
     -- ---- requests
 
@@ -207,7 +207,7 @@ module _ (P : Store → Type 0) (c : IsFirm P) where
     event_leads_firm (Bound session account receives) core k now g answers = also (happened (Bound session account receives) core).store (bind_steady session account receives (draft_of core) k)
     event_leads_firm (Unbound session) core k now g answers = also (happened (Unbound session) core).store (unbind_steady session (draft_of core) k)
     event_leads_firm (DeliverAnswered session id b) core k now g answers = also (happened (DeliverAnswered session id b) core).store (answered_by_steady id b (answers session id b refl) (row_at session_key session core.sessions) (draft_of core) k)
-    event_leads_firm (Frame handset octets tag) core k now g answers = frame_taken_steady octets (tag_of tag) (line_of handset core.lines) (draft_of core) k g
+    event_leads_firm (Frame handset octets tag) core k now g answers = frame_taken_steady octets (tag_of tag) (link_of handset core.links) (draft_of core) k g
     event_leads_firm (LinkUp handset) core k now g answers = also (happened (LinkUp handset) core).store (raise_steady handset (draft_of core) k)
     event_leads_firm (LinkDown handset) core k now g answers = also (happened (LinkDown handset) core).store (lower_steady handset (draft_of core) k)
     event_leads_firm (Ordered order id) core k now g answers = also (happened (Ordered order id) core).store (ordered_steady order id (draft_of core) k)

@@ -101,5 +101,5 @@ up_fits accounts from now None is are = tt
 up_fits accounts from now (Some (Opened unit)) is are = unit_fits accounts from now unit (up_at unit) is (are unit refl) refl
 up_fits accounts from now (Some (Ended transfer ending)) is are = tt
 
-pub frame_fits : (accounts : List CentreAccount) (l : HandsetLink) (now : ℕ) (frame : List ℕ) → IsNumber l.handset → AreOctets frame → UpGives accounts l.handset now (taken frame l.link).out.up
-frame_fits accounts l now frame is are = up_fits accounts l.handset now (taken frame l.link).out.up is (λ unit e. opened_octets l.link unit frame are e)
+pub frame_fits : (accounts : List CentreAccount) (l : HandsetLink) (now : ℕ) (frame : List ℕ) → IsNumber l.handset → AreOctets frame → UpGives accounts l.handset now (taken frame l.near_end).out.up
+frame_fits accounts l now frame is are = up_fits accounts l.handset now (taken frame l.near_end).out.up is (λ unit e. opened_octets l.near_end unit frame are e)

@@ -25,7 +25,7 @@ use Rattle.sms_centre_rows.specs.declared.waiting.handset_link.HandsetLink.{Hand
 use Rattle.sms_centre_rows.specs.messages.Messages.{is_pending}
 use Rattle.sms_centre_rows.specs.messages.SplitReferences.{is_among}
 use Rattle.sms_centre_rows.specs.reports.Receipts.{Session, answered_in, session_key}
-use Rattle.sms_centre_rows.specs.waiting.Links.{line_of, lowered, put_line, turn_line}
+use Rattle.sms_centre_rows.specs.waiting.Links.{link_of, lowered, put_link, turn_link}
 use Rattle.sms_intake.specs.HandsetIntake.{from_read}
 use Rattle.sms_intake.specs.SmppIntake.{from_pdu, is_empty, source_in}
 use Rattle.sms_intake.specs.declared.refusal.SubmitRefusal.{SubmitRefusal}
@@ -76,9 +76,9 @@ up_leaves h tag (Some (Ended transfer ending)) d = refl
 
 pub frame_unanswered : (handset octets : List ℕ) (tag : Option Holder) (c : Core) → (happened (Frame handset octets tag) c).answer ≡ None
 frame_unanswered handset octets tag c =
-    let l : HandsetLink = line_of handset c.lines in
+    let l : HandsetLink = link_of handset c.links in
     let d : Draft = draft_of c in
-    up_leaves l.handset (tag_of tag) (taken octets l.link).out.up (on_links (turn_line l (taken octets l.link) d.links) d)
+    up_leaves l.handset (tag_of tag) (taken octets l.near_end).out.up (on_links (turn_link l (taken octets l.near_end) d.links) d)
 
 -- ---- a tick
 
@@ -129,9 +129,9 @@ lost_leaves handset (Some transfer) d = refl
 
 pub down_unanswered : (handset : List ℕ) (c : Core) → (happened (LinkDown handset) c).answer ≡ None
 down_unanswered handset c =
-    let l : HandsetLink = line_of handset c.lines in
+    let l : HandsetLink = link_of handset c.links in
     let d : Draft = draft_of c in
-    lost_leaves l.handset l.link.under_way (on_links (put_line (lowered l) d.links) d)
+    lost_leaves l.handset l.near_end.under_way (on_links (put_link (lowered l) d.links) d)
 
 -- ---- requests
 

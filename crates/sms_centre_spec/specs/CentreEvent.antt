@@ -21,7 +21,7 @@ use Rattle.sms_centre_rows.specs.reports.Reports.{is_open_status}
 use Rattle.sms_centre_rows.specs.declared.waiting.handset.HandsetRow.{HandsetRow}
 use Rattle.sms_centre_rows.specs.declared.waiting.handset_link.HandsetLink.{HandsetLink}
 use Rattle.sms_centre_rows.specs.declared.waiting.reference.ReferenceRow.{ReferenceRow}
-use Rattle.sms_centre_rows.specs.waiting.Links.{line_at, line_of, lowered, put_line, raised as raised_line, turn_line}
+use Rattle.sms_centre_rows.specs.waiting.Links.{link_at, link_of, lowered, put_link, raised as raised_link, turn_link}
 use Rattle.sms_centre_rows.specs.waiting.References.{handset_at}
 use Rattle.sms_centre_rows.specs.waiting.Trying.{later}
 use Rattle.sms_centre_spec.specs.declared.event.CentreEvent.{CentreEvent}
@@ -51,13 +51,13 @@ went_up handset tag (Some (Opened unit)) d = unit_received handset tag unit (up_
 went_up handset tag (Some (Ended transfer ending)) d = conclude handset transfer ending d
 
 abbrev pub frame_heard : HandsetLink → Holder → Turn → Draft → Draft
-frame_heard line tag turn d = went_up line.handset tag turn.out.up (on_links (turn_line line turn d.links) d)
+frame_heard link tag turn d = went_up link.handset tag turn.out.up (on_links (turn_link link turn d.links) d)
 
 abbrev pub frame_taken : List ℕ → Holder → HandsetLink → Draft → Draft
-frame_taken octets tag line d = frame_heard line tag (taken octets line.link) d
+frame_taken octets tag link d = frame_heard link tag (taken octets link.near_end) d
 
 abbrev pub frame_received : List ℕ → List ℕ → Holder → Core → Draft
-frame_received handset octets tag c = follow (frame_taken octets tag (line_of handset c.lines) (draft_of c))
+frame_received handset octets tag c = follow (frame_taken octets tag (link_of handset c.links) (draft_of c))
 
 -- A frame without a tag, from a socket, is taken as one of entry 0, which no entry is.
 abbrev pub tag_of : Option Holder → Holder
@@ -65,11 +65,11 @@ tag_of tag = unwrap_or tag (Entry 0)
 
 -- ---- a link is up: the handset has memory, and all that waits for it is due now
 
-abbrev pub raise_line : HandsetLink → Draft → Draft
-raise_line line d = record d { store = due_now line.handset d.store; links = put_line (raised_line line) d.links }
+abbrev pub raise_link : HandsetLink → Draft → Draft
+raise_link link d = record d { store = due_now link.handset d.store; links = put_link (raised_link link) d.links }
 
 abbrev pub raise : List ℕ → Draft → Draft
-raise handset d = raise_line (line_of handset d.links.lines) d
+raise handset d = raise_link (link_of handset d.links.all) d
 
 abbrev pub link_up : List ℕ → Core → Draft
 link_up handset c = follow (raise handset (draft_of c))
@@ -80,11 +80,11 @@ abbrev pub lost : List ℕ → Option Carried → Draft → Draft
 lost handset None d = d
 lost handset (Some transfer) d = conclude handset transfer Lost d
 
-abbrev pub lower_line : HandsetLink → Draft → Draft
-lower_line line d = lost line.handset line.link.under_way (on_links (put_line (lowered line) d.links) d)
+abbrev pub lower_link : HandsetLink → Draft → Draft
+lower_link link d = lost link.handset link.near_end.under_way (on_links (put_link (lowered link) d.links) d)
 
 abbrev pub lower : List ℕ → Draft → Draft
-lower handset d = lower_line (line_of handset d.links.lines) d
+lower handset d = lower_link (link_of handset d.links.all) d
 
 abbrev pub link_down : List ℕ → Core → Draft
 link_down handset c = follow (lower handset (draft_of c))
@@ -113,20 +113,20 @@ timed_out handset None d = d
 timed_out handset (Some (Opened unit)) d = d
 timed_out handset (Some (Ended transfer ending)) d = conclude handset transfer ending d
 
-abbrev pub line_fired : HandsetLink → Turn → Draft → Draft
-line_fired line turn d = timed_out line.handset turn.out.up (on_links (turn_line line turn d.links) d)
+abbrev pub link_fired : HandsetLink → Turn → Draft → Draft
+link_fired link turn d = timed_out link.handset turn.out.up (on_links (turn_link link turn d.links) d)
 
-abbrev pub fire_line : HandsetLink → Draft → Draft
-fire_line line d = line_fired line (fired_link d.store.moment line.link) d
+abbrev pub fire_link : HandsetLink → Draft → Draft
+fire_link link d = link_fired link (fired_link d.store.moment link.near_end) d
 
 abbrev pub fire_at : Option HandsetLink → Draft → Draft
 fire_at None d = d
-fire_at (Some line) d = fire_line line d
+fire_at (Some link) d = fire_link link d
 
 -- in order of first mention, then the handsets that were never given a reference
 abbrev pub fire_mentioned : List HandsetRow → Draft → Draft
 fire_mentioned [] d = d
-fire_mentioned (h ∷ hs) d = fire_mentioned hs (fire_at (line_at h.number d.links.lines) d)
+fire_mentioned (h ∷ hs) d = fire_mentioned hs (fire_at (link_at h.number d.links.all) d)
 
 abbrev pub is_mentioned : Option HandsetRow → Bool
 is_mentioned None = false
@@ -135,10 +135,10 @@ is_mentioned (Some h) = true
 abbrev pub fire_others : List HandsetRow → List HandsetLink → Draft → Draft
 fire_others hs [] d = d
 fire_others hs (l ∷ ls) d =
-    fire_others hs ls (if is_mentioned (handset_at l.handset hs) then d else fire_at (line_at l.handset d.links.lines) d)
+    fire_others hs ls (if is_mentioned (handset_at l.handset hs) then d else fire_at (link_at l.handset d.links.all) d)
 
 abbrev pub fire_all : List HandsetRow → Draft → Draft
-fire_all hs d = fire_others hs d.links.lines (fire_mentioned hs d)
+fire_all hs d = fire_others hs d.links.all (fire_mentioned hs d)
 
 -- links that were up before a recovery are up again
 abbrev pub raise_all : List HandsetLink → Draft → Draft
@@ -146,7 +146,7 @@ raise_all [] d = d
 raise_all (l ∷ ls) d = raise_all ls (if l.is_awaited then raise l.handset d else d)
 
 abbrev pub raised : Draft → Draft
-raised d = raise_all d.links.lines d
+raised d = raise_all d.links.all d
 
 abbrev pub expired : Store → Store
 expired s = expire_all (messages_in s) s
@@ -221,10 +221,10 @@ after_reports moment (r ∷ rs) = after_reports (max moment r.made) rs
 abbrev pub moment_of : Rows → ℕ
 moment_of rows = after_reports (after_references (after_messages rows.setup.start rows.messages) rows.references) rows.reports
 
-abbrev pub lines_awaited : List (List ℕ) → List HandsetLink
-lines_awaited [] = []
-lines_awaited (n ∷ ns) =
-    record { handset = n; is_up = false; is_awaited = true; is_full = false; link = new_link Centre } ∷ lines_awaited ns
+abbrev pub links_awaited : List (List ℕ) → List HandsetLink
+links_awaited [] = []
+links_awaited (n ∷ ns) =
+    record { handset = n; is_up = false; is_awaited = true; is_full = false; near_end = new_link Centre } ∷ links_awaited ns
 
 -- The centre that starts again with these rows, with links to these handsets, which are up from its first tick, and with these
 -- sessions bound.
@@ -232,20 +232,20 @@ abbrev pub recovered : Rows → List (List ℕ) → List Session → Core
 recovered rows handsets sessions = record {
   rows = rows;
   moment = moment_of rows;
-  lines = lines_awaited handsets;
+  links = links_awaited handsets;
   sessions = sessions;
 }
 
-abbrev pub lines_up : List (List ℕ) → List HandsetLink
-lines_up [] = []
-lines_up (n ∷ ns) =
-    record { handset = n; is_up = true; is_awaited = false; is_full = false; link = new_link Centre } ∷ lines_up ns
+abbrev pub links_up : List (List ℕ) → List HandsetLink
+links_up [] = []
+links_up (n ∷ ns) =
+    record { handset = n; is_up = true; is_awaited = false; is_full = false; near_end = new_link Centre } ∷ links_up ns
 
 -- The centre that starts with these rows, with links to these handsets that are up.
 abbrev pub started : Rows → List (List ℕ) → List Session → Core
 started rows handsets sessions = record {
   rows = rows;
   moment = moment_of rows;
-  lines = lines_up handsets;
+  links = links_up handsets;
   sessions = sessions;
 }

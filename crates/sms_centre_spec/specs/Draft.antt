@@ -1,5 +1,5 @@
 -- A centre between two events, and in the middle of one. A draft has three parts, and most stages touch one of them alone.
--- They are the rows with their changes, and the lines to handsets with what was sent on them. The third is the sessions of
+-- They are the rows with their changes, and the links to handsets with what was sent on them. The third is the sessions of
 -- applications with the receipts that were sent in them.
 use Rattle.std.specs.Prelude.{ℕ, List, [], Option, Some, None}
 use Rattle.sms_rows.specs.table.Since.{Since, untouched, oldest_first as changes_of}
@@ -36,7 +36,7 @@ pub record Core : Type 0 where
   -- the greatest moment of its events, or of its rows
   pub moment : ℕ
   -- in the order in which they were first used
-  pub lines : List HandsetLink
+  pub links : List HandsetLink
   -- in the order of their numbers
   pub sessions : List Session
 
@@ -71,7 +71,7 @@ store_of rows moment = record {
 abbrev pub draft_of : Core → Draft
 draft_of c = record {
   store = store_of c.rows c.moment;
-  links = record { lines = c.lines; frames = []; read = [] };
+  links = record { all = c.links; frames = []; read = [] };
   bindings = record { sessions = c.sessions; deliveries = [] };
   answer = None;
 }
@@ -90,7 +90,7 @@ rows_of s = record {
 }
 
 abbrev pub core_of : Draft → Core
-core_of d = record { rows = rows_of d.store; moment = d.store.moment; lines = d.links.lines; sessions = d.bindings.sessions }
+core_of d = record { rows = rows_of d.store; moment = d.store.moment; links = d.links.all; sessions = d.bindings.sessions }
 
 -- ---- the changes of the rows, of each list the oldest first
 

@@ -1,4 +1,4 @@
--- What is offered to handsets: to each one whose line is ready, the next that is due. It touches the lines alone.
+-- What is offered to handsets: to each one whose link is ready, the next that is due. It touches the links alone.
 use Rattle.std.specs.Prelude.{ℕ, ◌==◌, ◌||◌, List, [], ◌∷◌, Bool, false, if◌then◌else◌, Option, Some, None}
 use Rattle.sms_base.specs.declared.holder.Holder.{Holder}
 use Rattle.sms_base.specs.declared.holder.Holder.TheVariants.{Part, Report}
@@ -16,7 +16,7 @@ use Rattle.sms_centre_rows.specs.declared.waiting.queued_part.QueuedPart.{Queued
 use Rattle.sms_centre_rows.specs.declared.waiting.revision.Revision.{Revision}
 use Rattle.sms_centre_rows.specs.declared.waiting.revision.Revision.TheVariants.{Put, Amend, Remove}
 use Rattle.sms_centre_rows.specs.waiting.Keys.{queued_key}
-use Rattle.sms_centre_rows.specs.waiting.Links.{Links, is_ready, line_of, read_for, turn_line}
+use Rattle.sms_centre_rows.specs.waiting.Links.{Links, is_ready, link_of, read_for, turn_link}
 use Rattle.sms_centre_rows.specs.waiting.Waiting.{next, waits_beside}
 use Rattle.sms_centre_spec.specs.Draft.{Draft, Store, handsets_in, on_links, parts_in, reports_in, waiting_in}
 
@@ -63,18 +63,18 @@ abbrev pub unit_of : QueuedPart → Bool → Store → List ℕ
 unit_of l more s = data_down l.reference (relay_address s.setup.centre) (with_more_messages more (tpdu_of l s))
 
 abbrev pub offer_queued : HandsetLink → List QueuedPart → Option QueuedPart → Store → Links → Links
-offer_queued line waiting None s links = links
-offer_queued line waiting (Some l) s links =
-    turn_line line (begun s.moment l.reference (holder_of l) (unit_of l (waits_beside s.moment l waiting) s) line.link) (read_of l s links)
+offer_queued link waiting None s links = links
+offer_queued link waiting (Some l) s links =
+    turn_link link (begun s.moment l.reference (holder_of l) (unit_of l (waits_beside s.moment l waiting) s) link.near_end) (read_of l s links)
 
 abbrev pub offer_among : HandsetLink → List QueuedPart → Store → Links → Links
-offer_among line waiting s links = offer_queued line waiting (next s.moment waiting) s links
+offer_among link waiting s links = offer_queued link waiting (next s.moment waiting) s links
 
 abbrev pub offer_on : HandsetLink → Store → Links → Links
-offer_on line s links = if is_ready line then offer_among line (waiting_in line.handset s) s links else links
+offer_on link s links = if is_ready link then offer_among link (waiting_in link.handset s) s links else links
 
 abbrev pub offer_to : List ℕ → Store → Links → Links
-offer_to handset s links = offer_on (line_of handset links.lines) s links
+offer_to handset s links = offer_on (link_of handset links.all) s links
 
 -- in order of first mention
 abbrev pub offer_all : List HandsetRow → Store → Links → Links

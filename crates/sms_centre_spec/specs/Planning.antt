@@ -20,7 +20,7 @@ pub record Outcome : Type 0 where
   pub answer : Option CentreAnswer
   pub deliveries : List Delivery
   pub moment : ℕ
-  pub lines : List HandsetLink
+  pub links : List HandsetLink
   pub sessions : List Session
 
 abbrev pub outcome_of : Draft → Outcome
@@ -30,13 +30,13 @@ outcome_of d = record {
   answer = d.answer;
   deliveries = d.bindings.deliveries;
   moment = d.store.moment;
-  lines = d.links.lines;
+  links = d.links.all;
   sessions = d.bindings.sessions;
 }
 
 -- the centre with the outcome put in
 abbrev pub adopted : Outcome → Core → Core
-adopted o c = record { rows = rows_after o.changes c.rows; moment = o.moment; lines = o.lines; sessions = o.sessions }
+adopted o c = record { rows = rows_after o.changes c.rows; moment = o.moment; links = o.links; sessions = o.sessions }
 
 -- ---- bodies
 

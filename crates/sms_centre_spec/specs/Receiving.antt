@@ -22,7 +22,7 @@ use Rattle.sms_centre_rows.specs.declared.reports.report.ReportRow.{ReportRow}
 use Rattle.sms_centre_rows.specs.reports.Reports.{report_of}
 use Rattle.sms_centre_rows.specs.declared.waiting.handset_link.HandsetLink.{HandsetLink}
 use Rattle.sms_centre_rows.specs.declared.waiting.queued_part.QueuedPart.{QueuedPart}
-use Rattle.sms_centre_rows.specs.waiting.Links.{Links, emptied, line_of, put_line, turn_line}
+use Rattle.sms_centre_rows.specs.waiting.Links.{Links, emptied, link_of, put_link, turn_link}
 use Rattle.sms_centre_rows.specs.waiting.Trying.{due_at}
 use Rattle.sms_intake.specs.declared.refusal.SubmitRefusal.{SubmitRefusal}
 use Rattle.sms_intake.specs.declared.refusal.SubmitRefusal.TheVariants.{Duplicate, ReferenceTaken, Congested}
@@ -78,11 +78,11 @@ is_duplicate submission s = submission.rejects_duplicates && is_pending_double s
 
 -- in the transaction that the handset began
 abbrev pub reply_on : HandsetLink → ℕ → Kind → ℕ → Holder → List ℕ → Links → Links
-reply_on line moment kind reference tag unit links = turn_line line (replied moment kind reference tag unit line.link) links
+reply_on link moment kind reference tag unit links = turn_link link (replied moment kind reference tag unit link.near_end) links
 
 abbrev pub reply : List ℕ → Kind → ℕ → Holder → List ℕ → Draft → Draft
 reply handset kind reference tag unit d =
-    on_links (reply_on (line_of handset d.links.lines) d.store.moment kind reference tag unit d.links) d
+    on_links (reply_on (link_of handset d.links.all) d.store.moment kind reference tag unit d.links) d
 
 -- RP-ERROR with a SUBMIT-REPORT
 abbrev pub refuse : List ℕ → ℕ → Holder → SubmitRefusal → Draft → Draft
@@ -110,11 +110,11 @@ data_received handset reference tag tpdu d =
 
 -- ---- RP-SMMA (3GPP TS 24.011 7.3.2): the handset has memory, and all that waits for it is due now
 
-abbrev pub empty_line : List ℕ → Links → Links
-empty_line handset links = put_line (emptied (line_of handset links.lines)) links
+abbrev pub empty_link : List ℕ → Links → Links
+empty_link handset links = put_link (emptied (link_of handset links.all)) links
 
 abbrev pub has_memory : List ℕ → Draft → Draft
-has_memory handset d = record d { store = due_now handset d.store; links = empty_line handset d.links }
+has_memory handset d = record d { store = due_now handset d.store; links = empty_link handset d.links }
 
 abbrev pub memory_available : List ℕ → ℕ → Holder → Draft → Draft
 memory_available handset reference tag d = has_memory handset (reply handset Ack reference tag (ack_down reference None) d)

@@ -18,7 +18,7 @@ use Rattle.sms_centre_rows.specs.declared.reports.report.ReportRow.{ReportRow}
 use Rattle.sms_centre_rows.specs.reports.Receipts.{Session, session_key}
 use Rattle.sms_centre_rows.specs.reports.Reports.{is_receipt, report_of}
 use Rattle.sms_centre_rows.specs.declared.waiting.handset_link.HandsetLink.{HandsetLink}
-use Rattle.sms_centre_rows.specs.waiting.Links.{line_at}
+use Rattle.sms_centre_rows.specs.waiting.Links.{link_at}
 use Rattle.sms_centre_rows.specs.waiting.SoundAllocations.{IsNumber}
 use Rattle.sms_centre_spec.specs.declared.event.CentreEvent.{CentreEvent}
 use Rattle.sms_centre_spec.specs.declared.event.CentreEvent.TheVariants.{Submit, Query, Cancel, Bound, Unbound, DeliverAnswered, Frame, LinkUp, LinkDown}
@@ -66,16 +66,16 @@ abbrev pub Brings : List ℕ → Option Carried → Rows → Type 0
 Brings handset None rows = Unit {0}
 Brings handset (Some transfer) rows = BringsKind transfer.kind handset transfer rows
 
-pub record IsLine (rows : Rows) (l : HandsetLink) : Type 0 where
+pub record IsLink (rows : Rows) (l : HandsetLink) : Type 0 where
   pub handset : IsNumber l.handset
-  pub side : l.link.side ≡ Centre
-  pub under_way : IsUnderWay l.handset l.link.under_way rows
-  pub answered : IsAnswer l.link.answered
+  pub side : l.near_end.side ≡ Centre
+  pub under_way : IsUnderWay l.handset l.near_end.under_way rows
+  pub answered : IsAnswer l.near_end.answered
 
--- no handset has two lines
-abbrev pub AreLines : List HandsetLink → Type 0
-AreLines [] = Unit {0}
-AreLines (l ∷ ls) = (line_at l.handset ls ≡ None) × AreLines ls
+-- no handset has two links
+abbrev pub AreLinks : List HandsetLink → Type 0
+AreLinks [] = Unit {0}
+AreLinks (l ∷ ls) = (link_at l.handset ls ≡ None) × AreLinks ls
 
 -- the receipt of the message is in the rows
 abbrev pub IsReceiptRow : Rows → ℕ → Type 0
@@ -90,8 +90,8 @@ pub record IsSoundCore (c : Core) : Type 0 where
   pub now : IsMoment c.moment
   -- no reference was given later than now
   pub moment : moment_of c.rows ≤ c.moment
-  pub each_line : (l : HandsetLink) → Among l c.lines → IsLine c.rows l
-  pub apart : AreLines c.lines
+  pub each_link : (l : HandsetLink) → Among l c.links → IsLink c.rows l
+  pub apart : AreLinks c.links
   pub session_keys : Rises session_key c.sessions
   pub each_session : (s : Session) → Among s c.sessions → IsSession c.rows s
 

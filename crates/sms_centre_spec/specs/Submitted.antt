@@ -12,7 +12,7 @@ use Rattle.sms_tpdu.specs.declared.carrier.Carrier.TheVariants.{InData}
 use Rattle.sms_tpdu.specs.TpduReading.{up_at as tpdu_up_at}
 use Rattle.smpp_pdu.specs.declared.message.Message.{Message}
 use Rattle.sms_centre_rows.specs.declared.waiting.handset_link.HandsetLink.{HandsetLink}
-use Rattle.sms_centre_rows.specs.waiting.Links.{line_of}
+use Rattle.sms_centre_rows.specs.waiting.Links.{link_of}
 use Rattle.sms_intake.specs.HandsetIntake.{from_read}
 use Rattle.sms_centre_spec.specs.declared.event.CentreEvent.{CentreEvent}
 use Rattle.sms_centre_spec.specs.declared.event.CentreEvent.TheVariants.{Submit, Query, Cancel, Bound, Unbound, DeliverAnswered, Frame, LinkUp, LinkDown}
@@ -53,7 +53,7 @@ EventGives (Bound session account receives) c = Unit {0}
 EventGives (Unbound session) c = Unit {0}
 EventGives (DeliverAnswered session id b) c = Unit {0}
 EventGives (Frame handset octets tag) c =
-    let l : HandsetLink = line_of handset c.lines in UpGives c.rows.setup.accounts l.handset c.moment (taken octets l.link).out.up
+    let l : HandsetLink = link_of handset c.links in UpGives c.rows.setup.accounts l.handset c.moment (taken octets l.near_end).out.up
 EventGives (LinkUp handset) c = Unit {0}
 EventGives (LinkDown handset) c = Unit {0}
 EventGives (Ordered order id) c = Unit {0}

@@ -14,7 +14,7 @@ use Rattle.sms_centre_rows.specs.messages.Messages.{all_done, message_at, part_a
 use Rattle.sms_centre_rows.specs.messages.OpenParts.{is_open_part}
 use Rattle.sms_centre_rows.specs.declared.reports.report.ReportRow.{ReportRow}
 use Rattle.sms_centre_rows.specs.reports.Reports.{is_open_status, report_of}
-use Rattle.sms_centre_rows.specs.waiting.Links.{Links, filled, line_of, put_line}
+use Rattle.sms_centre_rows.specs.waiting.Links.{Links, filled, link_of, put_link}
 use Rattle.sms_centre_rows.specs.waiting.Trying.{finished, tried}
 use Rattle.sms_centre_spec.specs.declared.verdict.Verdict.{Verdict}
 use Rattle.sms_centre_spec.specs.declared.verdict.Verdict.TheVariants.{Settled, HandsetFull, Again, Refused, Late}
@@ -102,16 +102,16 @@ holder_ended verdict (Entry n) s = s
 holder_ended verdict (Memory n) s = s
 
 -- nothing more is offered to a handset without memory until it says that it has, or its link is up again
-abbrev pub line_ended : Verdict → List ℕ → Links → Links
-line_ended Settled handset links = links
-line_ended HandsetFull handset links = put_line (filled (line_of handset links.lines)) links
-line_ended Again handset links = links
-line_ended Refused handset links = links
-line_ended Late handset links = links
+abbrev pub link_ended : Verdict → List ℕ → Links → Links
+link_ended Settled handset links = links
+link_ended HandsetFull handset links = put_link (filled (link_of handset links.all)) links
+link_ended Again handset links = links
+link_ended Refused handset links = links
+link_ended Late handset links = links
 
 abbrev pub ended_with : Verdict → List ℕ → Holder → Draft → Draft
 ended_with verdict handset holder d =
-    record d { store = holder_ended verdict holder d.store; links = line_ended verdict handset d.links }
+    record d { store = holder_ended verdict holder d.store; links = link_ended verdict handset d.links }
 
 -- the transfer to the handset has ended
 abbrev pub conclude : List ℕ → Carried → Ending → Draft → Draft

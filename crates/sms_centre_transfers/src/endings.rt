@@ -7,7 +7,7 @@ ghost use Rattle.sms_centre_rows.specs.waiting.Trying.{finished as finished_of};
 ghost use Rattle.sms_base.specs.declared.holder.Holder.TheVariants.{Part, Report};
 ghost use Rattle.sms_centre_rows.specs.declared.reports.report.ReportRow.{ReportRow as ReportRowOf};
 ghost use Rattle.sms_centre_spec.specs.Draft.{Draft, in_store, messages_in, on_links, parts_in, with_part_at};
-ghost use Rattle.sms_centre_spec.specs.Transfers.{complete as complete_of, conclude as conclude_of, ended_with as ended_with_of, line_ended as line_ended_of};
+ghost use Rattle.sms_centre_spec.specs.Transfers.{complete as complete_of, conclude as conclude_of, ended_with as ended_with_of, link_ended as link_ended_of};
 ghost use Rattle.sms_centre_spec.specs.Transfers.{part_ended as part_ended_of, verdict_on as verdict_on_ending};
 ghost use Rattle.sms_centre_draft.specs.Transfers.{IsReporting, IsWaiting};
 ghost use Rattle.sms_centre_draft.specs.CentreDraft.{Represents};
@@ -65,12 +65,12 @@ fn part_ended(
 }
 
 // Nothing more is offered to a handset without memory.
-fn line_ended(
+fn link_ended(
     draft: &mut CentreDraft<'_>,
     verdict: Verdict,
     handset: Msisdn,
 ) -> Result<(), AllocError>
-    ensures { (d : Draft) → Represents d draft.old → OnOk result (Represents (on_links (line_ended_of verdict handset d.links) d) draft.new) }
+    ensures { (d : Draft) → Represents d draft.old → OnOk result (Represents (on_links (link_ended_of verdict handset d.links) d) draft.new) }
 {
     match verdict {
         Verdict::HandsetFull => draft.fill(handset),
@@ -93,7 +93,7 @@ fn part_ended_at(
 {
     let verdict = verdict_of(ending);
     part_ended(draft, verdict, entry, message)?;
-    line_ended(draft, verdict, handset)
+    link_ended(draft, verdict, handset)
 }
 
 // The transfer of an open status report has ended so.
@@ -110,7 +110,7 @@ fn status_ended_at(
 {
     let verdict = verdict_of(ending);
     draft.status_ended(verdict, entry, message)?;
-    line_ended(draft, verdict, handset)
+    link_ended(draft, verdict, handset)
 }
 
 // The transfer of a part has ended.

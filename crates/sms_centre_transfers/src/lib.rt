@@ -7,7 +7,7 @@
 //!
 //! | Module | What it has |
 //! |---|---|
-//! | `endings` | what an ending means, and what becomes of the part, the report, the message and the line |
+//! | `endings` | what an ending means, and what becomes of the part, the report, the message and the link |
 #![tactic(auto)]
 
 mod endings;

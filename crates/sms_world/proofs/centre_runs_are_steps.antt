@@ -3,7 +3,7 @@ pub mod EveryEvent
 pub mod Plans
 pub mod Runs
 pub mod RowsAreTrue
-pub mod LinesOf
+pub mod LinksOf
 pub mod AfterOffers
 pub mod NothingOffered
 pub mod Stepping

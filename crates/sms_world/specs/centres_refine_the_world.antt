@@ -1,5 +1,5 @@
 pub mod FramesOut
-pub mod RefinesLines
+pub mod RefinesLinks
 pub mod RefinesReports
 pub mod RefinesGiven
 pub mod CentreRefinement

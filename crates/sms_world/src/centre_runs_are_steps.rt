@@ -29,7 +29,7 @@ pub fn what_can_be_sent_is_offered()
     ensures event { OfferedLaw }
 {}
 
-/// While it is so, a question and the answer to a receipt send nothing to handsets, and leave their lines as they are.
+/// While it is so, a question and the answer to a receipt send nothing to handsets, and leave their links as they are.
 pub fn some_events_offer_nothing()
     ensures query { QueryLaw }
     ensures answered { AnsweredLaw }

@@ -4,7 +4,7 @@ use Rattle.std.specs.Prelude.{ℕ, ◌==◌, nat_lt, List, Option, Some, None, R
 use Rattle.sms_base.specs.declared.carried.Carried.{Carried}
 use Rattle.sms_base.specs.declared.holder.Holder.{Holder}
 use Rattle.sms_base.specs.declared.holder.Holder.TheVariants.{Part, Report, Entry, Memory}
-use Rattle.sms_centre_rows.specs.waiting.Links.{line_of}
+use Rattle.sms_centre_rows.specs.waiting.Links.{link_of}
 use Rattle.sms_centre_spec.specs.Draft.{Core}
 use Rattle.sms_centre_spec.specs.declared.jobs.job.Job.{Job}
 use Rattle.sms_centre_spec.specs.declared.jobs.job.Job.TheVariants.{Bound, Unbound, Submit, Query, Cancel, DeliverAnswered, LinkUp, LinkDown, Frame}
@@ -67,7 +67,7 @@ refused_of refusal (Some transfer) = if transfer.reference == refusal.reference 
 -- what is under way to the handset, if it is one
 abbrev pub under_way_for : Core → Option (List ℕ) → Option Carried
 under_way_for c None = None
-under_way_for c (Some handset) = if is_number handset then (line_of handset c.lines).link.under_way else None
+under_way_for c (Some handset) = if is_number handset then (link_of handset c.links).near_end.under_way else None
 
 -- what is under way over the link at the seat, if one is there
 abbrev pub under_way_at : Core → List LinkSeat → ℕ → Option Carried

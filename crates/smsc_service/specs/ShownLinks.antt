@@ -2,7 +2,7 @@
 use Rattle.std.specs.Prelude.{◌≡◌, ℕ, ◌<◌, List, get_or, Option, Some, None, Bool, true, false, if◌then◌else◌}
 use Rattle.sms_centre_queue.specs.declared.queue.link_figures.LinkFigures.{LinkFigures}
 use Rattle.sms_centre_queue.specs.queue.Watching.{figures_of}
-use Rattle.sms_centre_rows.specs.waiting.Links.{line_of}
+use Rattle.sms_centre_rows.specs.waiting.Links.{link_of}
 use Rattle.sms_centre_spec.specs.Draft.{Core}
 use Rattle.sms_centre_spec.specs.SoundRows.{all_for}
 use Rattle.sms_centre_spec.specs.declared.jobs.job.Job.{Job}
@@ -16,7 +16,7 @@ use Rattle.smsc_service.specs.Seats.{handset_at}
 -- how many wait for the handset, and how its link is, if it is one
 abbrev pub figures_for : Core → Option (List ℕ) → Option LinkFigures
 figures_for c None = None
-figures_for c (Some handset) = if is_number handset then Some (figures_of (all_for handset c.rows) (line_of handset c.lines)) else None
+figures_for c (Some handset) = if is_number handset then Some (figures_of (all_for handset c.rows) (link_of handset c.links)) else None
 
 -- how the link at the seat is, if one is there
 abbrev pub figures_at : Core → List LinkSeat → ℕ → Option LinkFigures

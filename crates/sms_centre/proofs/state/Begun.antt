@@ -10,7 +10,7 @@ use Rattle.sms_centre_rows.specs.declared.reports.report.ReportRow.{ReportRow}
 use Rattle.sms_centre_rows.specs.reports.Receipts.{Session, session_key}
 use Rattle.sms_centre_reports.specs.sessions.Awaited.{AreAwaited}
 use Rattle.sms_centre_queue.specs.queues.Representing.{Represents as QueuesRepresent}
-use Rattle.sms_centre_recovery.specs.starting.Starting.{lines_of}
+use Rattle.sms_centre_recovery.specs.starting.Starting.{links_of}
 use Rattle.sms_rows.specs.table.Table.{Rises}
 use Rattle.sms_centre_rows.specs.waiting.SoundAllocations.{IsNumber}
 use Rattle.sms_centre_spec.specs.declared.rows.Rows.{Rows}
@@ -40,7 +40,7 @@ module _ (up : Bool) (rows : Rows) (ns : List (List ℕ)) (ss : List Session) (s
   begins_sound false = recovered_sound rows ns ss sound are apart keys (new_session rows ss new)
 
   pub begun_represents : (s : CentreStateOf) → s.setup ≡ rows.setup → s.moment ≡ moment_of rows → MessagesRepresent s.messages rows.messages rows.parts → ReferencesRepresent s.reference_index rows.bars rows.messages rows.parts
-      → QueuesRepresent rows.handsets rows.references (lines_of up ns) (λ (n : List ℕ). all_for n rows) s.queues → RepresentsReports rows.messages s.reports rows.reports → LogRepresents s.log rows.reports
+      → QueuesRepresent rows.handsets rows.references (links_of up ns) (λ (n : List ℕ). all_for n rows) s.queues → RepresentsReports rows.messages s.reports rows.reports → LogRepresents s.log rows.reports
       → s.sessions.rows ≡ ss → StateRepresents (begun up rows ns ss) s
   begun_represents s setup moment messages reference_index queues reports log sessions = record {
     centre = record {

@@ -27,7 +27,7 @@ pub record IsNextState (d : Draft) (l : NextStateOf) : Type 0 where
   -- the parts in memory become those of the draft
   pub messages : Matches l.messages d.store.messages.parts.base (parts_in d.store)
   pub queues : (new : DeliveryQueuesOf) → IsAdopted l.queues new
-      → Represents (handsets_in d.store) (references_in d.store) d.links.lines (all_waiting d.store) new
+      → Represents (handsets_in d.store) (references_in d.store) d.links.all (all_waiting d.store) new
   pub reports : RepresentsReports (messages_in d.store) l.reports (reports_in d.store)
   pub sessions : l.sessions ≡ d.bindings.sessions
 

@@ -21,7 +21,7 @@ pub record CentreStateOf : Type 0 where
   pub messages : MessagesOf
   -- split references and TP-MRs that earlier messages lay claim to
   pub reference_index : ReferenceIndexOf
-  -- handsets, their references and lines, and what waits for them
+  -- handsets, their references and links, and what waits for them
   pub queues : DeliveryQueuesOf
   -- the reports that are open
   pub reports : OpenReportsOf

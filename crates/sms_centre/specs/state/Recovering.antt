@@ -3,7 +3,7 @@ use Rattle.std.specs.Prelude.{◌≡◌, ℕ, List, [], Bool, Option, Some, None
 use Rattle.sms_base.specs.Among.{Among}
 use Rattle.sms_centre_rows.specs.reports.Receipts.{Session}
 use Rattle.sms_centre_recovery.specs.soundness.RowsOf.{IsSoundAlone}
-use Rattle.sms_centre_recovery.specs.starting.Starting.{lines_of}
+use Rattle.sms_centre_recovery.specs.starting.Starting.{links_of}
 use Rattle.sms_centre_spec.specs.declared.rows.Rows.{Rows}
 use Rattle.sms_centre_spec.specs.CentreEvent.{moment_of}
 use Rattle.sms_centre_spec.specs.Draft.{Core}
@@ -13,7 +13,7 @@ use Rattle.sms_centre.specs.declared.state.recover_error.RecoverError.TheVariant
 
 -- with links to these handsets, up at once or at the first tick, and with these sessions bound
 abbrev pub begun : Bool → Rows → List (List ℕ) → List Session → Core
-begun are_up rows handsets sessions = record { rows = rows; moment = moment_of rows; lines = lines_of are_up handsets; sessions = sessions }
+begun are_up rows handsets sessions = record { rows = rows; moment = moment_of rows; links = links_of are_up handsets; sessions = sessions }
 
 -- nothing was sent in these sessions yet
 abbrev pub AreNew : List Session → Type 0

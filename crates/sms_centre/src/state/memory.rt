@@ -6,7 +6,7 @@ ghost use Rattle.sms_centre_messages.specs.message_index.MessageIndex.{Represent
 ghost use Rattle.sms_centre_reports.specs.report_log.ReportLog.{Represents as LogRepresents};
 ghost use Rattle.sms_centre_queue.specs.queues.Representing.{Represents};
 ghost use Rattle.sms_centre_recovery.specs.soundness.RowsOf.{rows_of};
-ghost use Rattle.sms_centre_recovery.specs.starting.Starting.{lines_of};
+ghost use Rattle.sms_centre_recovery.specs.starting.Starting.{links_of};
 ghost use Rattle.sms_centre_spec.specs.SoundCore.{AreDifferent};
 ghost use Rattle.sms_centre_spec.specs.SoundRows.{IsSound, all_for};
 
@@ -97,7 +97,7 @@ fn other_memory(
 ) -> Result<OtherMemory, AllocError>
     requires sound { IsSound (rows_of tables.now) }
     requires apart { AreDifferent handsets.now }
-    ensures queues { IfOk result (λ memory. Represents tables.now.handsets.rows tables.now.references.rows (lines_of are_up handsets.now)
+    ensures queues { IfOk result (λ memory. Represents tables.now.handsets.rows tables.now.references.rows (links_of are_up handsets.now)
         (λ number. all_for number (rows_of tables.now)) memory.queues) }
     ensures reports { IfOk result (λ memory. RepresentsReports tables.now.messages.rows memory.reports tables.now.reports.rows) }
     ensures log { IfOk result (λ memory. LogRepresents memory.log tables.now.reports.rows) }
@@ -116,7 +116,7 @@ fn other_memory(
     }
 }
 
-/// What a centre keeps of sound rows that starts on them at that moment, with lines to these handsets.
+/// What a centre keeps of sound rows that starts on them at that moment, with links to these handsets.
 pub(crate) fn memory_of(
     alloc: Global,
     tables: &RowTables,
@@ -129,7 +129,7 @@ pub(crate) fn memory_of(
     ensures messages { IfOk result (λ memory. MessagesRepresent memory.messages tables.now.messages.rows tables.now.parts.rows) }
     ensures reference_index { IfOk result
         (λ memory. ReferencesRepresent memory.reference_index tables.now.bars.rows tables.now.messages.rows tables.now.parts.rows) }
-    ensures queues { IfOk result (λ memory. Represents tables.now.handsets.rows tables.now.references.rows (lines_of are_up handsets.now)
+    ensures queues { IfOk result (λ memory. Represents tables.now.handsets.rows tables.now.references.rows (links_of are_up handsets.now)
         (λ number. all_for number (rows_of tables.now)) memory.queues) }
     ensures reports { IfOk result (λ memory. RepresentsReports tables.now.messages.rows memory.reports tables.now.reports.rows) }
     ensures log { IfOk result (λ memory. LogRepresents memory.log tables.now.reports.rows) }

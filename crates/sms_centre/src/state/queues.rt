@@ -4,7 +4,7 @@ ghost use Rattle.sms_centre_queue.specs.queues.Plan.{FitsTheQueues, IsAdopted, I
 ghost use Rattle.sms_centre_queue.specs.queues.Queues.{DeliveryQueuesOf};
 ghost use Rattle.sms_centre_queue.specs.queues.Representing.{DraftRepresents, Represents};
 ghost use Rattle.sms_centre_recovery.specs.soundness.RowsOf.{rows_of};
-ghost use Rattle.sms_centre_recovery.specs.starting.Starting.{lines_of};
+ghost use Rattle.sms_centre_recovery.specs.starting.Starting.{links_of};
 ghost use Rattle.sms_centre_rows.specs.waiting.References.{Allocations};
 ghost use Rattle.sms_centre_rows.specs.declared.waiting.handset.HandsetRow.{HandsetRow};
 ghost use Rattle.sms_centre_rows.specs.declared.waiting.handset_link.HandsetLink.{HandsetLink};
@@ -20,7 +20,7 @@ use sms_centre_recovery::soundness::RowTables;
 use sms_centre_recovery::starting::{connect_all, put_parts, put_reports};
 use std::alloc::{AllocError, Global};
 
-// Lines to these handsets, and what waits for them, on empty queues.
+// Links to these handsets, and what waits for them, on empty queues.
 fn fill(
     tables: &RowTables,
     handsets: &[Msisdn],
@@ -29,8 +29,8 @@ fn fill(
 ) -> Result<(), AllocError>
     requires sound { IsSound (rows_of tables.now) }
     requires apart { AreDifferent handsets.now }
-    ensures { OnOk result ((g : Allocations) → DraftRepresents g (record { lines = []; frames = []; read = [] }) (λ number. []) queues.old
-        → DraftRepresents g (record { lines = lines_of are_up handsets.now; frames = []; read = [] })
+    ensures { OnOk result ((g : Allocations) → DraftRepresents g (record { all = []; frames = []; read = [] }) (λ number. []) queues.old
+        → DraftRepresents g (record { all = links_of are_up handsets.now; frames = []; read = [] })
         (λ number. all_for number (rows_of tables.now)) queues.new) }
 {
     let parts = tables.parts.as_slice();
@@ -41,14 +41,14 @@ fn fill(
     Ok(())
 }
 
-// In place of all lines there are lines to these handsets, down as yet.
-fn line_anew(handsets: &[Msisdn], queues: &mut DeliveryQueuesDraft) -> Result<(), AllocError>
+// In place of all links there are links to these handsets, down as yet.
+fn link_anew(handsets: &[Msisdn], queues: &mut DeliveryQueuesDraft) -> Result<(), AllocError>
     requires apart { AreDifferent handsets.now }
-    ensures { OnOk result ((g : Allocations) (lines : List HandsetLink) (waiting : List ℕ → List QueuedPart)
-        → DraftRepresents g (record { lines = lines; frames = []; read = [] }) waiting queues.old
-        → DraftRepresents g (record { lines = lines_of false handsets.now; frames = []; read = [] }) waiting queues.new) }
+    ensures { OnOk result ((g : Allocations) (links : List HandsetLink) (waiting : List ℕ → List QueuedPart)
+        → DraftRepresents g (record { all = links; frames = []; read = [] }) waiting queues.old
+        → DraftRepresents g (record { all = links_of false handsets.now; frames = []; read = [] }) waiting queues.new) }
 {
-    queues.forget_lines()?;
+    queues.forget_links()?;
     connect_all(handsets, false, queues)?;
     Ok(())
 }
@@ -76,7 +76,7 @@ fn load(
     ensures fits { IfOk result FitsTheQueues }
     ensures consistent { IfOk result (λ settled. (new : DeliveryQueuesOf)
         → Represents tables.now.handsets.rows tables.now.references.rows [] (λ number. []) queues.now → IsAdopted settled new
-        → Represents tables.now.handsets.rows tables.now.references.rows (lines_of are_up handsets.now) (λ number. all_for number (rows_of tables.now)) new) }
+        → Represents tables.now.handsets.rows tables.now.references.rows (links_of are_up handsets.now) (λ number. all_for number (rows_of tables.now)) new) }
 {
     an_adopted_plan_represents_its_rows();
     let mut pending = DeliveryQueuesDraft::of(alloc, queues)?;
@@ -99,13 +99,13 @@ pub(crate) fn settled_anew(
 ) -> Result<DeliveryQueuesPlan, AllocError>
     requires apart { AreDifferent handsets.now }
     ensures fits { IfOk result FitsTheQueues }
-    ensures consistent { IfOk result (λ settled. (rows : List HandsetRow) (references : List ReferenceRow) (lines : List HandsetLink) (waiting : List ℕ
-        → List QueuedPart) (new : DeliveryQueuesOf) → Represents rows references lines waiting queues.now → IsAdopted settled new
-        → Represents rows references (lines_of false handsets.now) waiting new) }
+    ensures consistent { IfOk result (λ settled. (rows : List HandsetRow) (references : List ReferenceRow) (links : List HandsetLink) (waiting : List ℕ
+        → List QueuedPart) (new : DeliveryQueuesOf) → Represents rows references links waiting queues.now → IsAdopted settled new
+        → Represents rows references (links_of false handsets.now) waiting new) }
 {
     an_adopted_plan_represents_its_rows();
     let mut pending = DeliveryQueuesDraft::of(alloc, queues)?;
-    match line_anew(handsets, &mut pending) {
+    match link_anew(handsets, &mut pending) {
         Ok(()) => settled(pending, now),
         Err(error) => {
             drop(pending);
@@ -125,7 +125,7 @@ pub(crate) fn queues_of(
 ) -> Result<DeliveryQueues, AllocError>
     requires sound { IsSound (rows_of tables.now) }
     requires apart { AreDifferent handsets.now }
-    ensures { IfOk result (λ queues. Represents tables.now.handsets.rows tables.now.references.rows (lines_of are_up handsets.now)
+    ensures { IfOk result (λ queues. Represents tables.now.handsets.rows tables.now.references.rows (links_of are_up handsets.now)
         (λ number. all_for number (rows_of tables.now)) queues) }
 {
     let mut queues = DeliveryQueues::recover(

@@ -3,7 +3,7 @@ ghost use Rattle.std.specs.Prelude.{◌≡◌, ℕ, List, false, OnErr, OnOk};
 ghost use Rattle.sms_centre_queue.specs.queues.Representing.{Represents as QueuesRepresent};
 ghost use Rattle.sms_centre.specs.state.Recovering.{AreNew};
 ghost use Rattle.sms_centre.specs.state.CentreState.{Represents as StateRepresents};
-ghost use Rattle.sms_centre_recovery.specs.starting.Starting.{lines_of};
+ghost use Rattle.sms_centre_recovery.specs.starting.Starting.{links_of};
 ghost use Rattle.sms_centre_rows.specs.declared.waiting.handset.HandsetRow.{HandsetRow};
 ghost use Rattle.sms_centre_rows.specs.declared.waiting.handset_link.HandsetLink.{HandsetLink};
 ghost use Rattle.sms_centre_rows.specs.declared.waiting.queued_part.QueuedPart.{QueuedPart};
@@ -51,7 +51,7 @@ impl CentreState {
     }
 }
 
-// What waits for handsets stays, and all lines are new.
+// What waits for handsets stays, and all links are new.
 fn renew(
     alloc: Global,
     handsets: &[Msisdn],
@@ -59,9 +59,9 @@ fn renew(
     queues: &mut DeliveryQueues,
 ) -> Result<(), AllocError>
     requires apart { AreDifferent handsets.now }
-    ensures consistent { OnOk result ((rows : List HandsetRow) (references : List ReferenceRow) (lines : List HandsetLink) (waiting : List ℕ → List QueuedPart)
-        → QueuesRepresent rows references lines waiting queues.old
-        → QueuesRepresent rows references (lines_of false handsets.now) waiting queues.new) }
+    ensures consistent { OnOk result ((rows : List HandsetRow) (references : List ReferenceRow) (links : List HandsetLink) (waiting : List ℕ → List QueuedPart)
+        → QueuesRepresent rows references links waiting queues.old
+        → QueuesRepresent rows references (links_of false handsets.now) waiting queues.new) }
     ensures same { OnErr result (queues.new ≡ queues.old) }
 {
     let settled = settled_anew(alloc, handsets, now, queues)?;

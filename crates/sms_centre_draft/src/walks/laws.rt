@@ -10,7 +10,7 @@ ghost use Rattle.sms_centre_rows.specs.reports.Reports.{is_open_status, report_o
 ghost use Rattle.sms_centre_rows.specs.declared.reports.report.ReportRow.{ReportRow};
 ghost use Rattle.sms_rows.specs.table.Table.{Rises};
 ghost use Rattle.sms_centre_rows.specs.waiting.SoundAllocations.{SoundAllocations};
-ghost use Rattle.sms_centre_queue.specs.queues.LineOrder.{AreLines};
+ghost use Rattle.sms_centre_queue.specs.queues.LinkOrder.{AreLinks};
 ghost use Rattle.sms_centre_queue.specs.queues.Walks.{walk};
 ghost use Rattle.sms_centre_queue.specs.declared.queues.concern.ConcernedHandset.{ConcernedHandset};
 ghost use Rattle.sms_centre_queue.specs.declared.queues.concern.Concern.TheVariants.{Awaited, Fire, FireUnmentioned, Offer};
@@ -40,13 +40,13 @@ pub fn offers_concern_those_found()
 /// or make a status report for another handset, which then has been given a reference. It makes no other timer due, and
 /// moves no handset.
 pub fn timers_fire_at_those_found()
-    ensures { (d : Draft) → SoundAllocations (handsets_in d.store) (references_in d.store) → AreLines d.links.lines
+    ensures { (d : Draft) → SoundAllocations (handsets_in d.store) (references_in d.store) → AreLinks d.links.all
         → fired d ≡ walk fire_on (stops_in (FireUnmentioned d.store.moment) d) (walk fire_on (stops_in (Fire d.store.moment) d) d) }
 {}
 
 /// The links that were up before a recovery are up again: those that are found as the walk begins.
 pub fn links_rise_where_found()
-    ensures { (d : Draft) → AreLines d.links.lines → raised d ≡ walk raise (stops_in Awaited d) d }
+    ensures { (d : Draft) → AreLinks d.links.all → raised d ≡ walk raise (stops_in Awaited d) d }
 {}
 
 /// Messages expire by their numbers. Any numbers in order serve among which are those of all messages whose time is

@@ -10,7 +10,7 @@ use Rattle.sms_centre_queue.specs.queues.Representing.{DraftRepresents as Repres
 use Rattle.sms_centre_rows.specs.declared.waiting.handset_link.HandsetLink.{HandsetLink}
 use Rattle.sms_centre_rows.specs.declared.waiting.queued_part.QueuedPart.{QueuedPart}
 use Rattle.sms_centre_rows.specs.waiting.Keys.{queued_key}
-use Rattle.sms_centre_rows.specs.waiting.Links.{Links, is_ready, line_of, read_for, turn_line}
+use Rattle.sms_centre_rows.specs.waiting.Links.{Links, is_ready, link_of, read_for, turn_link}
 use Rattle.sms_link.specs.LinkTurn.{begun}
 use Rattle.sms_centre_rows.specs.waiting.References.{Allocations}
 use Rattle.sms_centre_rows.specs.waiting.Waiting.{next}
@@ -24,23 +24,23 @@ use Rattle.sms_centre_events.specs.offering.Refusing.{SucceedsOrRefuses, NoneRef
 use Rattle.sms_centre_events.specs.offering.Offered.{next_for, offer_in, offer_next}
 use Rattle.sms_centre_draft.specs.CentreDraft.{Represents, CentreDraftOf, all_waiting}
 use Rattle.sms_centre_draft.proofs.RepresentedMoves.{aired_represented}
-use Rattle.sms_centre_draft.proofs.walks.OffersFound.{read_lines}
+use Rattle.sms_centre_draft.proofs.walks.OffersFound.{read_links}
 use Rattle.sms_centre_events.specs.offering.Stored.{made_tpdu}
-use Rattle.sms_centre_rows.proofs.waiting.LinksRepresented.{line_of_handset}
+use Rattle.sms_centre_rows.proofs.waiting.LinksRepresented.{link_of_handset}
 
 -- ---- the next one is offered
 
-one_way : (b : Bool) (line : HandsetLink) (waiting : List QueuedPart) (s : Store) (links : Links)
-    → cond b (offer_queued line waiting (next s.moment waiting) s links) links ≡ offer_queued line waiting (cond b (next s.moment waiting) None) s links
-one_way true line waiting s links = refl
-one_way false line waiting s links = refl
+one_way : (b : Bool) (link : HandsetLink) (waiting : List QueuedPart) (s : Store) (links : Links)
+    → cond b (offer_queued link waiting (next s.moment waiting) s links) links ≡ offer_queued link waiting (cond b (next s.moment waiting) None) s links
+one_way true link waiting s links = refl
+one_way false link waiting s links = refl
 
 pub offer_is_next : (handset : List ℕ) (d : Draft) → offer_at handset d ≡ offer_next handset (next_for handset d) d
 offer_is_next handset d =
-    let line : HandsetLink = line_of handset d.links.lines in
+    let link : HandsetLink = link_of handset d.links.all in
     ap (λ (links : Links). on_links links d)
-    (ap (λ (n : List ℕ). cond (is_ready line) (offer_queued line (waiting_in n d.store) (next d.store.moment (waiting_in n d.store)) d.store d.links) d.links) (line_of_handset handset d.links.lines)
-    ∙ one_way (is_ready line) line (waiting_in handset d.store) d.store d.links)
+    (ap (λ (n : List ℕ). cond (is_ready link) (offer_queued link (waiting_in n d.store) (next d.store.moment (waiting_in n d.store)) d.store d.links) d.links) (link_of_handset handset d.links.all)
+    ∙ one_way (is_ready link) link (waiting_in handset d.store) d.store d.links)
 
 next_by : (b : Bool) (now : ℕ) (l : QueuedPart) (ls : List QueuedPart) → cond b (next now ls) None ≡ Some l → Among l ls
 next_by true now l ls e = next_waits now l ls e
@@ -48,7 +48,7 @@ next_by false now l ls e = absurd cc
 
 -- it waits for the handset
 pub next_among : (handset : List ℕ) (l : QueuedPart) (d : Draft) → next_for handset d ≡ Some l → Among l (waiting_in handset d.store)
-next_among handset l d e = next_by (is_ready (line_of handset d.links.lines)) d.store.moment l (waiting_in handset d.store) e
+next_among handset l d e = next_by (is_ready (link_of handset d.links.all)) d.store.moment l (waiting_in handset d.store) e
 
 -- ---- what is read
 
@@ -74,7 +74,7 @@ offered_reads handset (Some l) d k among = still_read l d.store k d.links among
 pub offer_reads : (handset : List ℕ) (d : Draft) (k : ℕ) → Among k d.links.read → Among k (offer_at handset d).links.read
 offer_reads handset d k among = subst (λ (e : Draft). Among k e.links.read) (sym (offer_is_next handset d)) (offered_reads handset (next_for handset d) d k among)
 
--- ---- reads are not seen on lines
+-- ---- reads are not seen on links
 
 clock_by : (b : Bool) (key : ℕ) (g : Allocations) (links : Links) (waiting : List ℕ → List QueuedPart) (p : QueuesOf) → RepresentsQueues g links waiting p → RepresentsQueues g (cond b links (read_for key links)) waiting p
 clock_by true key g links waiting p represents = represents
@@ -86,7 +86,7 @@ clock_by false key g links waiting p represents = record {
   handsets = represents.handsets;
   references = represents.references;
   frames = represents.frames;
-  lines = represents.lines;
+  link_count = represents.link_count;
   digits = represents.digits;
   apart = represents.apart;
   indexed = represents.indexed;
@@ -154,11 +154,11 @@ made_none l s e = unmade_by (is_made l s) (tpdu_of l s) e
 
 pub begun_represented : (handset : List ℕ) (l : QueuedPart) (unit : List ℕ) (now : ℕ) (tag : Holder) (d : Draft) (w : CentreDraftOf) (queues : QueuesOf) → Represents d w → now ≡ d.store.moment → tag ≡ holder_of l
     → RepresentsQueues d.store.allocations
-    (turn_line (line_of handset (read_of l d.store d.links).lines) (begun now l.reference tag unit (line_of handset (read_of l d.store d.links).lines).link) (read_of l d.store d.links)) (all_waiting d.store) queues
+    (turn_link (link_of handset (read_of l d.store d.links).all) (begun now l.reference tag unit (link_of handset (read_of l d.store d.links).all).near_end) (read_of l d.store d.links)) (all_waiting d.store) queues
     → Represents (offer_in handset unit l d) (record w { queues = queues })
 begun_represented handset l unit now tag d w queues represents is held placed =
     let links : Links = read_of l d.store d.links in
-    aired_represented d w (turn_line (line_of handset d.links.lines) (begun d.store.moment l.reference (holder_of l) unit (line_of handset d.links.lines).link) links) queues represents
-    (subst (λ (ls : List HandsetLink). RepresentsQueues d.store.allocations (turn_line (line_of handset ls) (begun d.store.moment l.reference (holder_of l) unit (line_of handset ls).link) links) (all_waiting d.store) queues) (read_lines l d.store d.links)
-    (subst (λ (n : ℕ). RepresentsQueues d.store.allocations (turn_line (line_of handset links.lines) (begun n l.reference (holder_of l) unit (line_of handset links.lines).link) links) (all_waiting d.store) queues) is
-    (subst (λ (t : Holder). RepresentsQueues d.store.allocations (turn_line (line_of handset links.lines) (begun now l.reference t unit (line_of handset links.lines).link) links) (all_waiting d.store) queues) held placed)))
+    aired_represented d w (turn_link (link_of handset d.links.all) (begun d.store.moment l.reference (holder_of l) unit (link_of handset d.links.all).near_end) links) queues represents
+    (subst (λ (ls : List HandsetLink). RepresentsQueues d.store.allocations (turn_link (link_of handset ls) (begun d.store.moment l.reference (holder_of l) unit (link_of handset ls).near_end) links) (all_waiting d.store) queues) (read_links l d.store d.links)
+    (subst (λ (n : ℕ). RepresentsQueues d.store.allocations (turn_link (link_of handset links.all) (begun n l.reference (holder_of l) unit (link_of handset links.all).near_end) links) (all_waiting d.store) queues) is
+    (subst (λ (t : Holder). RepresentsQueues d.store.allocations (turn_link (link_of handset links.all) (begun now l.reference t unit (link_of handset links.all).near_end) links) (all_waiting d.store) queues) held placed)))

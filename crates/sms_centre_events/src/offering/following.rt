@@ -40,7 +40,7 @@ fn offer_each<B: BodyKeep>(
     Ok(())
 }
 
-// To each handset whose line is ready the next that is due is offered.
+// To each handset whose link is ready the next that is due is offered.
 fn offer<B: BodyKeep>(
     draft: &mut CentreDraft<'_>,
     bodies: &mut B,

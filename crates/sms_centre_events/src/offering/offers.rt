@@ -18,7 +18,7 @@ use sms_centre_rows::waiting::QueuedPart;
 use sms_centre_spec::PlanError;
 use sms_rows::keep::BodyKeep;
 
-// The next that is due for the handset, if its line is ready.
+// The next that is due for the handset, if its link is ready.
 fn next_for(draft: &CentreDraft<'_>, handset: &Msisdn) -> Option<QueuedPart>
     ensures { (d : Draft) → Represents d draft.now → result ≡ next_for_of handset.now d }
 {
@@ -56,7 +56,7 @@ fn offer_queued<B: BodyKeep>(
     }
 }
 
-/// Offers the next due part to `handset`, if its line is ready.
+/// Offers the next due part to `handset`, if its link is ready.
 pub(crate) fn offer_at<B: BodyKeep>(
     draft: &mut CentreDraft<'_>,
     bodies: &mut B,

@@ -38,7 +38,7 @@ taken_given number q placed row was reference now p mid new taken becomes = reco
 }
 
 pub given_next : (number : List ℕ) (row : HandsetRow) (reference now : ℕ) (q : PlacedQueue) (p mid new : DeliveryQueuesDraftOf) → IsNumber number → reference < 256 → IsTaken number q p mid
-    → row ≡ or_new_handset q.queue.line.handset mid.next_place q.queue.row
+    → row ≡ or_new_handset q.queue.link.handset mid.next_place q.queue.row
     → Becomes (digits_key number) (with_queue (queue_given row reference now q.queue) q) (given_to row q.queue.row reference now mid) new
     → (g : Allocations) (links : Links) (w : List ℕ → List QueuedPart) → DraftRepresents g links w p → DraftRepresents (give (handset_of number (handsets_of g)) reference now g) links w new
 given_next number row reference now q p mid new is small taken row_is becomes g links w represents =
@@ -46,7 +46,7 @@ given_next number row reference now q p mid new is small taken row_is becomes g 
     let hs : List HandsetRow = handsets_of g in
     let rs : List ReferenceRow = references_of g in
     let was = taken_represented number q p mid g links w digits taken represents in
-    let handset : q.queue.line.handset ≡ number = taken_handset number q p mid g links w digits taken represents in
+    let handset : q.queue.link.handset ≡ number = taken_handset number q p mid g links w digits taken represents in
     let place : mid.next_place ≡ place_after 1 hs = ap (λ (x : DeliveryQueuesDraftOf). x.next_place) taken.rest ∙ represents.next_place in
     let own_row : row ≡ row_for number hs q.queue =
     row_is ∙ ap (λ (n : List ℕ). or_new_handset n mid.next_place q.queue.row) handset ∙ ap (λ (n : ℕ). or_new_handset number n q.queue.row) place in
@@ -64,18 +64,18 @@ given_next number row reference now q p mid new is small taken row_is becomes g 
       references = ap (λ (cs : List (Change ReferenceRow)). cs ++ Put (given_row row reference now) ∷ []) represents.references
           ∙ ap (λ (x : HandsetRow). oldest_first g.references.news ++ Put (given_row x reference now) ∷ []) is_h;
       frames = represents.frames;
-      lines = represents.lines;
+      link_count = represents.link_count;
       digits = represents.digits;
       apart = represents.apart;
     })
     handset
     (record {
       queue = subst (λ (x : HandsetRow). RepresentsOne number (put handset_key (mentioned h reference) hs)
-          (put reference_key (given_row h reference now) rs) (w number) links.lines (queue_given x reference now q.queue))
-          (sym own_row) (give_own number hs rs (w number) links.lines q.queue reference now represents.sound small was.queue);
+          (put reference_key (given_row h reference now) rs) (w number) links.all (queue_given x reference now q.queue))
+          (sym own_row) (give_own number hs rs (w number) links.all q.queue reference now represents.sound small was.queue);
       link_place = was.link_place;
     })
     (λ other x ne s. record {
-      queue = give_other number other hs rs (w other) links.lines x.queue reference now represents.sound small ne s.queue;
+      queue = give_other number other hs rs (w other) links.all x.queue reference now represents.sound small ne s.queue;
       link_place = s.link_place;
     })

@@ -14,7 +14,7 @@ use Rattle.sms_centre_rows.specs.waiting.Links.{Links}
 use Rattle.sms_centre_rows.specs.waiting.References.{Allocations, handsets_of, place_after, references_of}
 use Rattle.sms_centre_rows.specs.waiting.SoundAllocations.{SoundAllocations}
 use Rattle.sms_centre_queue.specs.declared.queues.placed_queue.PlacedQueue.{PlacedQueue}
-use Rattle.sms_centre_queue.specs.queues.LineOrder.{AreLines}
+use Rattle.sms_centre_queue.specs.queues.LinkOrder.{AreLinks}
 use Rattle.sms_centre_queue.specs.queues.Queues.{Becomes, DeliveryQueuesDraftOf, at, or_new, placed_of, under}
 use Rattle.sms_centre_queue.specs.queues.Representing.{Indexed, IsNamed, DraftRepresents, RepresentsPlaced}
 
@@ -33,9 +33,9 @@ pub record Also (base : DeliveryQueuesDraftOf) (g : Allocations) (links : Links)
   pub handsets : base.handsets ≡ oldest_first g.handsets.news
   pub references : base.references ≡ oldest_first g.references.news
   pub frames : base.frames ≡ links.frames
-  pub lines : base.lines ≡ length links.lines
-  pub digits : (l : HandsetLink) → Among l links.lines → IsMsisdn l.handset
-  pub apart : AreLines links.lines
+  pub link_count : base.link_count ≡ length links.all
+  pub digits : (l : HandsetLink) → Among l links.all → IsMsisdn l.handset
+  pub apart : AreLinks links.all
 
 pub also_represented : (g : Allocations) (links : Links) (w : List ℕ → List QueuedPart) (p : DeliveryQueuesDraftOf) → DraftRepresents g links w p → Also p g links
 also_represented g links w p s = record {
@@ -44,30 +44,30 @@ also_represented g links w p s = record {
   handsets = s.handsets;
   references = s.references;
   frames = s.frames;
-  lines = s.lines;
+  link_count = s.link_count;
   digits = s.digits;
   apart = s.apart;
 }
 
 pub represents_next : (number : List ℕ) (placed : PlacedQueue) (p base new : DeliveryQueuesDraftOf) (g g2 : Allocations) (links air2 : Links) (w w2 : List ℕ → List QueuedPart)
     → IsMsisdn number → Becomes (digits_key number) placed base new → ((k : ℕ) → at k base ≡ at k p) → base.base ≡ p.base → DraftRepresents g links w p → Also base g2 air2
-    → placed.queue.line.handset ≡ number
-    → RepresentsPlaced number (handsets_of g2) (references_of g2) (w2 number) air2.lines placed
-    → ((other : List ℕ) (q : PlacedQueue) → ¬ (number ≡ other) → RepresentsPlaced other (handsets_of g) (references_of g) (w other) links.lines q
-    → RepresentsPlaced other (handsets_of g2) (references_of g2) (w2 other) air2.lines q)
+    → placed.queue.link.handset ≡ number
+    → RepresentsPlaced number (handsets_of g2) (references_of g2) (w2 number) air2.all placed
+    → ((other : List ℕ) (q : PlacedQueue) → ¬ (number ≡ other) → RepresentsPlaced other (handsets_of g) (references_of g) (w other) links.all q
+    → RepresentsPlaced other (handsets_of g2) (references_of g2) (w2 other) air2.all q)
     → DraftRepresents g2 air2 w2 new
 represents_next number placed p base new g g2 links air2 w w2 digits becomes same stands represents also handset own others = record {
   sound = also.sound;
   each = λ other d. ⊎_elim
       (λ (e : number ≡ other).
       let here : placed_of number new ≡ placed = ap (λ (o : Option PlacedQueue). or_new number o) (at_own (digits_key number) placed base new becomes) in
-      subst (λ (n : List ℕ). RepresentsPlaced n (handsets_of g2) (references_of g2) (w2 n) air2.lines (placed_of n new)) e
-      (subst (λ (q : PlacedQueue). RepresentsPlaced number (handsets_of g2) (references_of g2) (w2 number) air2.lines q) (sym here) own))
+      subst (λ (n : List ℕ). RepresentsPlaced n (handsets_of g2) (references_of g2) (w2 n) air2.all (placed_of n new)) e
+      (subst (λ (q : PlacedQueue). RepresentsPlaced number (handsets_of g2) (references_of g2) (w2 number) air2.all q) (sym here) own))
       (λ (ne : number ≡ other → ⊥).
       let apart : ¬ (digits_key other ≡ digits_key number) = λ k. ne (sym (digits_equal other number d.each digits.each k)) in
       let there : placed_of other new ≡ placed_of other p =
       ap (λ (o : Option PlacedQueue). or_new other o) (at_other (digits_key number) (digits_key other) placed base new becomes apart ∙ same (digits_key other)) in
-      subst (λ (q : PlacedQueue). RepresentsPlaced other (handsets_of g2) (references_of g2) (w2 other) air2.lines q) (sym there)
+      subst (λ (q : PlacedQueue). RepresentsPlaced other (handsets_of g2) (references_of g2) (w2 other) air2.all q) (sym there)
       (others other (placed_of other p) ne (represents.each other d)))
       (cases_octets number other);
   named = λ key q found. ⊎_elim
@@ -82,7 +82,7 @@ represents_next number placed p base new g g2 links air2 w w2 digits becomes sam
   handsets = ap (λ (x : DeliveryQueuesDraftOf). x.handsets) becomes.rest ∙ also.handsets;
   references = ap (λ (x : DeliveryQueuesDraftOf). x.references) becomes.rest ∙ also.references;
   frames = ap (λ (x : DeliveryQueuesDraftOf). x.frames) becomes.rest ∙ also.frames;
-  lines = ap (λ (x : DeliveryQueuesDraftOf). x.lines) becomes.rest ∙ also.lines;
+  link_count = ap (λ (x : DeliveryQueuesDraftOf). x.link_count) becomes.rest ∙ also.link_count;
   digits = also.digits;
   apart = also.apart;
   indexed = subst Indexed (sym (ap (λ (x : DeliveryQueuesDraftOf). x.base) becomes.rest ∙ stands)) represents.indexed;

@@ -11,7 +11,7 @@ use Rattle.sms_centre_queue.specs.queues.Stops.{is_active}
 gone : (key : ℕ) (es : List (ℕ × PlacedQueue)) (b : Bool) → AllByRecursion (λ (y : ℕ). nat_eq key y ≡ false) (keys_of es) → relisted_all key es b ≡ b
 gone key [] b h = refl
 gone key (e ∷ es) b h =
-    ap (λ (x : Bool). relisted_all key es x) (cond-false (nat_eq key e.0) (is_active e.1.queue.line) b h.0) ∙ gone key es b h.1
+    ap (λ (x : Bool). relisted_all key es x) (cond-false (nat_eq key e.0) (is_active e.1.queue.link) b h.0) ∙ gone key es b h.1
 
 pub relisted_once : (key : ℕ) (es : List (ℕ × PlacedQueue)) (b : Bool) → IsDistinct nat_eq (keys_of es) → relisted_all key es b ≡ relisted (under key es) b
 unfolding IsDistinct
@@ -19,11 +19,11 @@ relisted_once key [] b d = refl
 relisted_once key (e ∷ es) b d = ⊎_elim
     (λ (t : nat_eq key e.0 ≡ true).
     let same : e.0 ≡ key = sym (eqb-true key e.0 t) in
-    ap (λ (x : Bool). relisted_all key es x) (cond-true (nat_eq key e.0) (is_active e.1.queue.line) b t)
-    ∙ gone key es (is_active e.1.queue.line) (subst (λ (k : ℕ). AllByRecursion (λ (y : ℕ). nat_eq k y ≡ false) (keys_of es)) same d.0)
+    ap (λ (x : Bool). relisted_all key es x) (cond-true (nat_eq key e.0) (is_active e.1.queue.link) b t)
+    ∙ gone key es (is_active e.1.queue.link) (subst (λ (k : ℕ). AllByRecursion (λ (y : ℕ). nat_eq k y ≡ false) (keys_of es)) same d.0)
     ∙ sym (ap (λ (o : Option PlacedQueue). relisted o b) (cond-true (nat_eq key e.0) (Some e.1) (under key es) t)))
     (λ (t : nat_eq key e.0 ≡ false).
-    ap (λ (x : Bool). relisted_all key es x) (cond-false (nat_eq key e.0) (is_active e.1.queue.line) b t)
+    ap (λ (x : Bool). relisted_all key es x) (cond-false (nat_eq key e.0) (is_active e.1.queue.link) b t)
     ∙ relisted_once key es b d.1
     ∙ sym (ap (λ (o : Option PlacedQueue). relisted o b) (cond-false (nat_eq key e.0) (Some e.1) (under key es) t)))
     (cases_Bool (nat_eq key e.0))

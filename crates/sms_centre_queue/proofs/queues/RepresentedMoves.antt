@@ -12,16 +12,16 @@ use Rattle.sms_centre_rows.specs.declared.waiting.handset_link.HandsetLink.{Hand
 use Rattle.sms_centre_rows.specs.declared.waiting.handset_link.Sent.{Sent}
 use Rattle.sms_centre_rows.specs.declared.waiting.queued_part.QueuedPart.{QueuedPart}
 use Rattle.sms_centre_rows.specs.waiting.Keys.{queued_key}
-use Rattle.sms_centre_rows.specs.waiting.Links.{Links, line_of, put_line, to_handset, turn_line, turned, with_line}
+use Rattle.sms_centre_rows.specs.waiting.Links.{Links, link_of, put_link, to_handset, turn_link, turned, with_link}
 use Rattle.sms_centre_rows.specs.waiting.References.{Allocations, give, handset_of, handsets_of, or_new_handset}
 use Rattle.sms_centre_rows.specs.waiting.DeliveryQueues.{DeliveryQueueOf, queue_given, queue_on, queue_turned, queue_with}
 use Rattle.sms_centre_rows.specs.waiting.SoundAllocations.{IsNumber}
 use Rattle.sms_centre_queue.specs.declared.queues.placed_queue.PlacedQueue.{PlacedQueue}
-use Rattle.sms_centre_queue.specs.queues.Queues.{Becomes, IsTaken, DeliveryQueuesDraftOf, link_place_now, counted, given_to, lines_now, or_new, under, with_queue}
+use Rattle.sms_centre_queue.specs.queues.Queues.{Becomes, IsTaken, DeliveryQueuesDraftOf, link_place_now, counted, given_to, link_count_now, or_new, under, with_queue}
 use Rattle.sms_centre_queue.specs.queues.Representing.{DraftRepresents, Waits}
 use Rattle.sms_centre_queue.proofs.queues.Allocation.{given_next, number_digits}
-use Rattle.sms_centre_queue.proofs.queues.Moving.{line_next, waits_next}
-use Rattle.sms_centre_rows.proofs.waiting.LinksRepresented.{line_of_handset}
+use Rattle.sms_centre_queue.proofs.queues.Moving.{link_next, waits_next}
+use Rattle.sms_centre_rows.proofs.waiting.LinksRepresented.{link_of_handset}
 
 pub if_ok : {X E : Type 0} {P Q : Type 0} (r : Result X E) → (P → Q) → OnOk r P → OnOk r Q
 if_ok (Ok x) f p = f p
@@ -37,7 +37,7 @@ waits_done number f q s p mid new r digits taken is becomes =
     if_ok r (λ (e : s ≡ record q.queue { waiting = f q.queue.waiting }).
     waits_next number f q p mid new digits taken (subst (λ (x : DeliveryQueueOf). Becomes (digits_key number) (with_queue x q) mid new) e becomes)) is
 
--- ---- a line
+-- ---- a link
 
 -- it was put back, whatever its note said
 pub put_noted : {X E : Type 0} (key : ℕ) (placed placed2 : PlacedQueue) (old old2 new : DeliveryQueuesDraftOf) (r : Result X E) → OnOk r (placed ≡ placed2) → OnOk r (old ≡ old2)
@@ -46,33 +46,33 @@ put_noted key placed placed2 old old2 new (Ok x) is was becomes =
     subst (λ (o : DeliveryQueuesDraftOf). Becomes key placed2 o new) was (subst (λ (q : PlacedQueue). Becomes key q old new) is becomes)
 put_noted key placed placed2 old old2 new (Err e) is was becomes = is
 
--- what stands after a line was put back
-abbrev pub LinePut : List ℕ → PlacedQueue → DeliveryQueueOf → List Outgoing → DeliveryQueuesDraftOf → DeliveryQueuesDraftOf → Type 0
-LinePut number q s frames mid new =
-    Becomes (digits_key number) (record { queue = s; link_place = link_place_now q.link_place mid.lines }) (counted (lines_now q.link_place mid.lines) (mid.frames ++ to_handset number frames) mid) new
+-- what stands after a link was put back
+abbrev pub LinkPut : List ℕ → PlacedQueue → DeliveryQueueOf → List Outgoing → DeliveryQueuesDraftOf → DeliveryQueuesDraftOf → Type 0
+LinkPut number q s frames mid new =
+    Becomes (digits_key number) (record { queue = s; link_place = link_place_now q.link_place mid.link_count }) (counted (link_count_now q.link_place mid.link_count) (mid.frames ++ to_handset number frames) mid) new
 
-pub line_ok : {X E : Type 0} (number : List ℕ) (f : HandsetLink → HandsetLink) (q : PlacedQueue) (s : DeliveryQueueOf) (none : List Outgoing) (p mid new : DeliveryQueuesDraftOf) (r : Result X E) → IsMsisdn number → ((l : HandsetLink) → (f l).handset ≡ l.handset) → IsTaken number q p mid
-    → s ≡ queue_on (f q.queue.line) q.queue → none ≡ [] → OnOk r (LinePut number q s none mid new)
-    → OnOk r ((g : Allocations) (links : Links) (w : List ℕ → List QueuedPart) → DraftRepresents g links w p → DraftRepresents g (put_line (f (line_of number links.lines)) links) w new)
-line_ok number f q s none p mid new r digits keeps taken is empty becomes =
-    if_ok r (λ (b : LinePut number q s none mid new) (g : Allocations) (links : Links) (w : List ℕ → List QueuedPart) (represents : DraftRepresents g links w p).
-    subst (λ (fs : List Sent). DraftRepresents g (record links { lines = with_line (f (line_of number links.lines)) links.lines; frames = fs }) w new) (append-nil links.frames)
-    (line_next number f (λ l. []) q p mid new digits keeps taken (subst (λ (x : List Outgoing). LinePut number q (queue_on (f q.queue.line) q.queue) x mid new) empty (subst (λ (x : DeliveryQueueOf). LinePut number q x none mid new) is b)) g links w represents)) becomes
+pub link_ok : {X E : Type 0} (number : List ℕ) (f : HandsetLink → HandsetLink) (q : PlacedQueue) (s : DeliveryQueueOf) (none : List Outgoing) (p mid new : DeliveryQueuesDraftOf) (r : Result X E) → IsMsisdn number → ((l : HandsetLink) → (f l).handset ≡ l.handset) → IsTaken number q p mid
+    → s ≡ queue_on (f q.queue.link) q.queue → none ≡ [] → OnOk r (LinkPut number q s none mid new)
+    → OnOk r ((g : Allocations) (links : Links) (w : List ℕ → List QueuedPart) → DraftRepresents g links w p → DraftRepresents g (put_link (f (link_of number links.all)) links) w new)
+link_ok number f q s none p mid new r digits keeps taken is empty becomes =
+    if_ok r (λ (b : LinkPut number q s none mid new) (g : Allocations) (links : Links) (w : List ℕ → List QueuedPart) (represents : DraftRepresents g links w p).
+    subst (λ (fs : List Sent). DraftRepresents g (record links { all = with_link (f (link_of number links.all)) links.all; frames = fs }) w new) (append-nil links.frames)
+    (link_next number f (λ l. []) q p mid new digits keeps taken (subst (λ (x : List Outgoing). LinkPut number q (queue_on (f q.queue.link) q.queue) x mid new) empty (subst (λ (x : DeliveryQueueOf). LinkPut number q x none mid new) is b)) g links w represents)) becomes
 
 turn_next : (number : List ℕ) (turn : HandsetLink → Turn) (q : PlacedQueue) (s : DeliveryQueueOf) (frames : List Outgoing) (p mid new : DeliveryQueuesDraftOf) → IsMsisdn number → IsTaken number q p mid
-    → s ≡ queue_turned (turn q.queue.line) q.queue → frames ≡ (turn q.queue.line).out.frames → LinePut number q s frames mid new
-    → (g : Allocations) (links : Links) (w : List ℕ → List QueuedPart) → DraftRepresents g links w p → DraftRepresents g (turn_line (line_of number links.lines) (turn (line_of number links.lines)) links) w new
+    → s ≡ queue_turned (turn q.queue.link) q.queue → frames ≡ (turn q.queue.link).out.frames → LinkPut number q s frames mid new
+    → (g : Allocations) (links : Links) (w : List ℕ → List QueuedPart) → DraftRepresents g links w p → DraftRepresents g (turn_link (link_of number links.all) (turn (link_of number links.all)) links) w new
 turn_next number turn q s frames p mid new digits taken is sent becomes g links w represents =
-    let line : HandsetLink = line_of number links.lines in
-    subst (λ (n : List ℕ). DraftRepresents g (record links { lines = with_line (turned (turn line) line) links.lines; frames = links.frames ++ to_handset n (turn line).out.frames }) w new)
-    (sym (line_of_handset number links.lines))
-    (line_next number (λ l. turned (turn l) l) (λ l. (turn l).out.frames) q p mid new digits (λ l. refl) taken
-    (subst (λ (x : List Outgoing). LinePut number q (queue_turned (turn q.queue.line) q.queue) x mid new) sent (subst (λ (x : DeliveryQueueOf). LinePut number q x frames mid new) is becomes))
+    let link : HandsetLink = link_of number links.all in
+    subst (λ (n : List ℕ). DraftRepresents g (record links { all = with_link (turned (turn link) link) links.all; frames = links.frames ++ to_handset n (turn link).out.frames }) w new)
+    (sym (link_of_handset number links.all))
+    (link_next number (λ l. turned (turn l) l) (λ l. (turn l).out.frames) q p mid new digits (λ l. refl) taken
+    (subst (λ (x : List Outgoing). LinkPut number q (queue_turned (turn q.queue.link) q.queue) x mid new) sent (subst (λ (x : DeliveryQueueOf). LinkPut number q x frames mid new) is becomes))
     g links w represents)
 
 pub turn_ok : {X E : Type 0} (number : List ℕ) (turn : HandsetLink → Turn) (q : PlacedQueue) (s : DeliveryQueueOf) (frames : List Outgoing) (p mid new : DeliveryQueuesDraftOf) (r : Result X E) → IsMsisdn number → IsTaken number q p mid
-    → s ≡ queue_turned (turn q.queue.line) q.queue → frames ≡ (turn q.queue.line).out.frames → OnOk r (LinePut number q s frames mid new)
-    → OnOk r ((g : Allocations) (links : Links) (w : List ℕ → List QueuedPart) → DraftRepresents g links w p → DraftRepresents g (turn_line (line_of number links.lines) (turn (line_of number links.lines)) links) w new)
+    → s ≡ queue_turned (turn q.queue.link) q.queue → frames ≡ (turn q.queue.link).out.frames → OnOk r (LinkPut number q s frames mid new)
+    → OnOk r ((g : Allocations) (links : Links) (w : List ℕ → List QueuedPart) → DraftRepresents g links w p → DraftRepresents g (turn_link (link_of number links.all) (turn (link_of number links.all)) links) w new)
 turn_ok number turn q s frames p mid new r digits taken is sent becomes = if_ok r (turn_next number turn q s frames p mid new digits taken is sent) becomes
 
 -- ---- a reference
@@ -112,14 +112,14 @@ taken_before number q new = record {
 }
 
 pub given_done : {X E : Type 0} (number : List ℕ) (now : ℕ) (l : QueuedPart) (q placed : PlacedQueue) (p mid noted new : DeliveryQueuesDraftOf) (r : Result X E) → IsNumber number → l.reference < 256 → IsTaken number q p mid
-    → OnOk r (noted ≡ given_to (or_new_handset q.queue.line.handset mid.next_place q.queue.row) q.queue.row l.reference now mid)
-    → OnOk r (placed ≡ with_queue (queue_with l (queue_given (or_new_handset q.queue.line.handset mid.next_place q.queue.row) l.reference now q.queue)) q)
+    → OnOk r (noted ≡ given_to (or_new_handset q.queue.link.handset mid.next_place q.queue.row) q.queue.row l.reference now mid)
+    → OnOk r (placed ≡ with_queue (queue_with l (queue_given (or_new_handset q.queue.link.handset mid.next_place q.queue.row) l.reference now q.queue)) q)
     → Becomes (digits_key number) placed noted new
     → OnOk r ((g : Allocations) (links : Links) (w w2 : List ℕ → List QueuedPart) → DraftRepresents g links w p → Waits number (put queued_key l) w w2
     → DraftRepresents (give (handset_of number (handsets_of g)) l.reference now g) links w2 new)
 given_done number now l q placed p mid noted new r is small taken noted_is placed_is becomes =
     let key : ℕ = digits_key number in
-    let row : HandsetRow = or_new_handset q.queue.line.handset mid.next_place q.queue.row in
+    let row : HandsetRow = or_new_handset q.queue.link.handset mid.next_place q.queue.row in
     let given : PlacedQueue = with_queue (queue_given row l.reference now q.queue) q in
     let waits : PlacedQueue = with_queue (queue_with l (queue_given row l.reference now q.queue)) q in
     let to : DeliveryQueuesDraftOf = given_to row q.queue.row l.reference now mid in

@@ -25,30 +25,30 @@ represents_at p touched rested old new key same base installed =
     ∙ ap (λ (g : SharedQueuesOf). option_or (under key p.touched) (under key g.queues)) base
 
 active_listed : (p : DeliveryQueuesDraftOf) (rested : Option ℕ) (new : SharedQueuesOf) (key : ℕ) (placed : PlacedQueue) (touched : Option PlacedQueue) → Indexed p.base → IsInstalled p.touched rested p.base new → under key p.touched ≡ touched
-    → option_or touched (under key p.base.queues) ≡ Some placed → is_active placed.queue.line ≡ true → is_listed key new.index ≡ true
+    → option_or touched (under key p.base.queues) ≡ Some placed → is_active placed.queue.link ≡ true → is_listed key new.index ≡ true
 active_listed p rested new key placed (Some q) indexed installed there found active =
     let both : Some q ≡ Some placed = found in
     let same : q ≡ placed = cc in
     let listed : is_listed key new.index ≡ relisted (Some q) (is_listed key p.base.index) =
     installed.index key ∙ ap (λ (o : Option PlacedQueue). relisted o (is_listed key p.base.index)) there in
-    listed ∙ ap (λ (x : PlacedQueue). is_active x.queue.line) same ∙ active
+    listed ∙ ap (λ (x : PlacedQueue). is_active x.queue.link) same ∙ active
 active_listed p rested new key placed None indexed installed there found active =
     let listed : is_listed key new.index ≡ is_listed key p.base.index =
     installed.index key ∙ ap (λ (o : Option PlacedQueue). relisted o (is_listed key p.base.index)) there in
     listed ∙ indexed.active key placed found active
 
 ground_represents : (g : Allocations) (links : Links) (w : List ℕ → List QueuedPart) (p : DeliveryQueuesDraftOf) (rested : Option ℕ) (new : SharedQueuesOf) → DraftRepresents g links w p → ((moment : ℕ) → rested ≡ Some moment → scanned (Offer moment) p ≡ []) → IsInstalled p.touched rested p.base new
-    → Represents (handsets_of g) (references_of g) links.lines w (record { ground = new; touched = []; next_place = p.next_place; lines = p.lines })
+    → Represents (handsets_of g) (references_of g) links.all w (record { ground = new; touched = []; next_place = p.next_place; link_count = p.link_count })
 ground_represents g links w p rested new represents none installed = record {
   sound = represents.sound;
   each = λ number d.
-      subst (λ (o : Option PlacedQueue). RepresentsPlaced number (handsets_of g) (references_of g) (w number) links.lines (or_new number o)) (sym (represents_at p p.touched rested p.base new (digits_key number) refl refl installed)) (represents.each number d);
+      subst (λ (o : Option PlacedQueue). RepresentsPlaced number (handsets_of g) (references_of g) (w number) links.all (or_new number o)) (sym (represents_at p p.touched rested p.base new (digits_key number) refl refl installed)) (represents.each number d);
   named = λ key placed found. represents.named key placed (sym (represents_at p p.touched rested p.base new key refl refl installed) ∙ found);
   next_place = represents.next_place;
   handsets = refl;
   references = refl;
   frames = refl;
-  lines = represents.lines;
+  link_count = represents.link_count;
   digits = represents.digits;
   apart = represents.apart;
   indexed = record {
@@ -64,7 +64,7 @@ ground_represents g links w p rested new represents none installed = record {
 -- ---- they stand beside it
 
 beside_represents : (g : Allocations) (links : Links) (w : List ℕ → List QueuedPart) (p : DeliveryQueuesDraftOf) → DraftRepresents g links w p
-    → Represents (handsets_of g) (references_of g) links.lines w (record { ground = p.base; touched = p.touched; next_place = p.next_place; lines = p.lines })
+    → Represents (handsets_of g) (references_of g) links.all w (record { ground = p.base; touched = p.touched; next_place = p.next_place; link_count = p.link_count })
 beside_represents g links w p represents = record {
   sound = represents.sound;
   each = represents.each;
@@ -73,7 +73,7 @@ beside_represents g links w p represents = record {
   handsets = refl;
   references = refl;
   frames = refl;
-  lines = represents.lines;
+  link_count = represents.link_count;
   digits = represents.digits;
   apart = represents.apart;
   indexed = represents.indexed;
@@ -82,50 +82,50 @@ beside_represents g links w p represents = record {
 -- ---- either way
 
 pub adopted_represents : (g : Allocations) (links : Links) (w : List ℕ → List QueuedPart) (p : DeliveryQueuesDraftOf) (s : DeliveryQueuesPlanOf) (new : DeliveryQueuesOf) → DraftRepresents g links w p → IsSettled p s → IsAdopted s new
-    → Represents (handsets_of g) (references_of g) links.lines w new
+    → Represents (handsets_of g) (references_of g) links.all w new
 adopted_represents g links w p s new represents settled adopted = ⊎_elim
     (λ (i : IsInstalled s.touched s.rested s.ground new.ground × (new.touched ≡ [])).
     let installed : IsInstalled p.touched s.rested p.base new.ground =
     subst (λ (o : SharedQueuesOf). IsInstalled p.touched s.rested o new.ground) settled.ground (subst (λ (es : List (ℕ × PlacedQueue)). IsInstalled es s.rested s.ground new.ground) settled.touched i.0) in
-    let same : record { ground = new.ground; touched = []; next_place = p.next_place; lines = p.lines } ≡ new = is new.ground [] refl i.1 in
-    subst (λ (x : DeliveryQueuesOf). Represents (handsets_of g) (references_of g) links.lines w x) same (ground_represents g links w p s.rested new.ground represents settled.rested installed))
+    let same : record { ground = new.ground; touched = []; next_place = p.next_place; link_count = p.link_count } ≡ new = is new.ground [] refl i.1 in
+    subst (λ (x : DeliveryQueuesOf). Represents (handsets_of g) (references_of g) links.all w x) same (ground_represents g links w p s.rested new.ground represents settled.rested installed))
     (λ (l : (new.ground ≡ s.ground) × (new.touched ≡ s.touched)).
-    let same : record { ground = p.base; touched = p.touched; next_place = p.next_place; lines = p.lines } ≡ new = is p.base p.touched (l.0 ∙ settled.ground) (l.1 ∙ settled.touched) in
-    subst (λ (x : DeliveryQueuesOf). Represents (handsets_of g) (references_of g) links.lines w x) same (beside_represents g links w p represents))
+    let same : record { ground = p.base; touched = p.touched; next_place = p.next_place; link_count = p.link_count } ≡ new = is p.base p.touched (l.0 ∙ settled.ground) (l.1 ∙ settled.touched) in
+    subst (λ (x : DeliveryQueuesOf). Represents (handsets_of g) (references_of g) links.all w x) same (beside_represents g links w p represents))
     adopted.put_in
   where
-    is : (ground : SharedQueuesOf) (touched : List (ℕ × PlacedQueue)) → new.ground ≡ ground → new.touched ≡ touched → record { ground = ground; touched = touched; next_place = p.next_place; lines = p.lines } ≡ new
+    is : (ground : SharedQueuesOf) (touched : List (ℕ × PlacedQueue)) → new.ground ≡ ground → new.touched ≡ touched → record { ground = ground; touched = touched; next_place = p.next_place; link_count = p.link_count } ≡ new
     is ground touched a b =
         let place = adopted.next_place ∙ settled.next_place in
-        let lines = adopted.lines ∙ settled.lines in
-        ap (λ (g : SharedQueuesOf). record { ground = g; touched = touched; next_place = p.next_place; lines = p.lines }) (sym a)
-        ∙ ap (λ (es : List (ℕ × PlacedQueue)). record { ground = new.ground; touched = es; next_place = p.next_place; lines = p.lines }) (sym b)
-        ∙ ap (λ (n : ℕ). record { ground = new.ground; touched = new.touched; next_place = n; lines = p.lines }) (sym place)
-        ∙ ap (λ (n : ℕ). record { ground = new.ground; touched = new.touched; next_place = new.next_place; lines = n }) (sym lines)
+        let link_count = adopted.link_count ∙ settled.link_count in
+        ap (λ (g : SharedQueuesOf). record { ground = g; touched = touched; next_place = p.next_place; link_count = p.link_count }) (sym a)
+        ∙ ap (λ (es : List (ℕ × PlacedQueue)). record { ground = new.ground; touched = es; next_place = p.next_place; link_count = p.link_count }) (sym b)
+        ∙ ap (λ (n : ℕ). record { ground = new.ground; touched = new.touched; next_place = n; link_count = p.link_count }) (sym place)
+        ∙ ap (λ (n : ℕ). record { ground = new.ground; touched = new.touched; next_place = new.next_place; link_count = n }) (sym link_count)
 
 -- ---- an event begins, with the queues that stand beside the ground in memory of its own
 
-alike_begins : (handsets : List HandsetRow) (references : List ReferenceRow) (lines : List HandsetLink) (w : List ℕ → List QueuedPart) (s : DeliveryQueuesOf) (touched : List (ℕ × PlacedQueue)) → Represents handsets references lines w s
-    → ((key : ℕ) → under key touched ≡ under key s.touched) → Begins handsets references lines w (record (pending_of s) { touched = touched })
-alike_begins handsets references lines w s touched stands alike =
+alike_begins : (handsets : List HandsetRow) (references : List ReferenceRow) (links : List HandsetLink) (w : List ℕ → List QueuedPart) (s : DeliveryQueuesOf) (touched : List (ℕ × PlacedQueue)) → Represents handsets references links w s
+    → ((key : ℕ) → under key touched ≡ under key s.touched) → Begins handsets references links w (record (pending_of s) { touched = touched })
+alike_begins handsets references links w s touched stands alike =
     let at_same : (key : ℕ) → option_or (under key touched) (under key s.ground.queues) ≡ option_or (under key s.touched) (under key s.ground.queues) =
     λ key. ap (λ (o : Option PlacedQueue). option_or o (under key s.ground.queues)) (alike key) in
     record {
       sound = stands.sound;
       each = λ number d.
-          subst (λ (o : Option PlacedQueue). RepresentsPlaced number handsets references (w number) lines (or_new number o)) (sym (at_same (digits_key number))) (stands.each number d);
+          subst (λ (o : Option PlacedQueue). RepresentsPlaced number handsets references (w number) links (or_new number o)) (sym (at_same (digits_key number))) (stands.each number d);
       named = λ key placed found. stands.named key placed (sym (at_same key) ∙ found);
       next_place = stands.next_place;
       handsets = refl;
       references = refl;
       frames = refl;
-      lines = stands.lines;
+      link_count = stands.link_count;
       digits = stands.digits;
       apart = stands.apart;
       indexed = stands.indexed;
     }
 
-pub continued_begins : (handsets : List HandsetRow) (references : List ReferenceRow) (lines : List HandsetLink) (w : List ℕ → List QueuedPart) (s : DeliveryQueuesOf) (p : DeliveryQueuesDraftOf) → Represents handsets references lines w s → Continues s p
-    → Begins handsets references lines w p
-continued_begins handsets references lines w s p stands continues =
-    subst (λ (q : DeliveryQueuesDraftOf). Begins handsets references lines w q) (sym continues.rest) (alike_begins handsets references lines w s p.touched stands continues.alike)
+pub continued_begins : (handsets : List HandsetRow) (references : List ReferenceRow) (links : List HandsetLink) (w : List ℕ → List QueuedPart) (s : DeliveryQueuesOf) (p : DeliveryQueuesDraftOf) → Represents handsets references links w s → Continues s p
+    → Begins handsets references links w p
+continued_begins handsets references links w s p stands continues =
+    subst (λ (q : DeliveryQueuesDraftOf). Begins handsets references links w q) (sym continues.rest) (alike_begins handsets references links w s p.touched stands continues.alike)

@@ -80,7 +80,7 @@ one_row hs rs f g sound m n e =
 -- what stands under the key of a handset
 pub restored_at : (number : List ℕ) (hs : List HandsetRow) (rs : List ReferenceRow) (row : Option HandsetRow) (o : Option PlacedQueue) → SoundAllocations hs rs → IsMsisdn number → handset_at number hs ≡ row
     → restored_all (digits_key number) hs rs None ≡ o → RepresentsPlaced number hs rs [] [] (or_new number o)
-restored_at number hs rs None None sound digits at is = record { queue = record { row = sym at; given = refl; all_queued = refl; line = refl }; link_place = refl }
+restored_at number hs rs None None sound digits at is = record { queue = record { row = sym at; given = refl; all_queued = refl; link = refl }; link_place = refl }
 restored_at number hs rs None (Some q) sound digits at is = ⊎_elim
     (λ (s : None ≡ Some q). absurd cc)
     (λ (s : (h : HandsetRow) × (Among h hs × (digits_key number ≡ digits_key h.number) × (q ≡ restored h rs))).
@@ -105,15 +105,15 @@ restored_at number hs rs (Some h) (Some q) sound digits at is = ⊎_elim
         row = sym (subst (λ (n : List ℕ). handset_at n hs ≡ Some h) (sym there.1) at);
         given = λ r small. found_between reference_key (pair_key h.place 0) (pair_key (h.place + 1) 0) (pair_key h.place r) rs (omega arith) (omega (arith, small)) sound.reference_keys;
         all_queued = refl;
-        line = refl;
+        link = refl;
       };
       link_place = refl;
     })))
     (from_row (digits_key number) hs rs None q is)
 
-ground_represents : (hs : List HandsetRow) (rs : List ReferenceRow) (g : SharedQueuesOf) (place lines : ℕ) → SoundAllocations hs rs → ((key : ℕ) → under key g.queues ≡ restored_all key hs rs None) → place ≡ place_after 1 hs
-    → lines ≡ 0 → g.rested ≡ None → Represents hs rs [] (λ n. []) (record { ground = g; touched = []; next_place = place; lines = lines })
-ground_represents hs rs g n k sound all place lines rested = record {
+ground_represents : (hs : List HandsetRow) (rs : List ReferenceRow) (g : SharedQueuesOf) (place link_count : ℕ) → SoundAllocations hs rs → ((key : ℕ) → under key g.queues ≡ restored_all key hs rs None) → place ≡ place_after 1 hs
+    → link_count ≡ 0 → g.rested ≡ None → Represents hs rs [] (λ n. []) (record { ground = g; touched = []; next_place = place; link_count = link_count })
+ground_represents hs rs g n k sound all place link_count rested = record {
   sound = sound;
   each = λ number d. restored_at number hs rs (handset_at number hs) (under (digits_key number) g.queues) sound d refl (sym (all (digits_key number)));
   named = λ key placed found. ⊎_elim
@@ -125,21 +125,21 @@ ground_represents hs rs g n k sound all place lines rested = record {
   handsets = refl;
   references = refl;
   frames = refl;
-  lines = lines;
+  link_count = link_count;
   digits = λ l m. elim m [ ];
   apart = tt;
   indexed = record {
     active = λ key placed found active. ⊎_elim
         (λ (n : None ≡ Some placed). absurd cc)
         (λ (h : (x : HandsetRow) × (Among x hs × (key ≡ digits_key x.number) × (placed ≡ restored x rs))).
-        let bad : false ≡ true = ap (λ (q : PlacedQueue). is_active q.queue.line) (sym h.1.2) ∙ active in absurd cc)
+        let bad : false ≡ true = ap (λ (q : PlacedQueue). is_active q.queue.link) (sym h.1.2) ∙ active in absurd cc)
         (from_row key hs rs None placed (sym (all key) ∙ found));
     rested = λ moment key placed is found. let bad : None ≡ Some moment = sym rested ∙ is in absurd cc;
   };
 }
 
 pub restored_represents : (hs : List HandsetRow) (rs : List ReferenceRow) (s : DeliveryQueuesOf) → SoundAllocations hs rs → ((key : ℕ) → under key s.ground.queues ≡ restored_all key hs rs None) → s.touched ≡ [] → s.next_place ≡ place_after 1 hs
-    → s.lines ≡ 0 → s.ground.rested ≡ None → Represents hs rs [] (λ n. []) s
-restored_represents hs rs s sound all none place lines rested =
-    subst (λ (es : List (ℕ × PlacedQueue)). Represents hs rs [] (λ n. []) (record { ground = s.ground; touched = es; next_place = s.next_place; lines = s.lines })) (sym none)
-    (ground_represents hs rs s.ground s.next_place s.lines sound all place lines rested)
+    → s.link_count ≡ 0 → s.ground.rested ≡ None → Represents hs rs [] (λ n. []) s
+restored_represents hs rs s sound all none place link_count rested =
+    subst (λ (es : List (ℕ × PlacedQueue)). Represents hs rs [] (λ n. []) (record { ground = s.ground; touched = es; next_place = s.next_place; link_count = s.link_count })) (sym none)
+    (ground_represents hs rs s.ground s.next_place s.link_count sound all place link_count rested)

@@ -6,4 +6,4 @@ use Rattle.sms_centre_queue.specs.declared.queue.link_figures.LinkFigures.{LinkF
 
 -- of a handset for which this waits, and whose link is that
 abbrev pub figures_of : List QueuedPart → HandsetLink → LinkFigures
-figures_of waiting line = record { waiting = length waiting; is_full = line.is_full; is_under_way = is_some line.link.under_way }
+figures_of waiting link = record { waiting = length waiting; is_full = link.is_full; is_under_way = is_some link.near_end.under_way }

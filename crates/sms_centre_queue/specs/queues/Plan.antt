@@ -15,7 +15,7 @@ pub record DeliveryQueuesPlanOf : Type 0 where
   pub reserve : ℕ
   pub index_reserve : ℕ
   pub next_place : ℕ
-  pub lines : ℕ
+  pub link_count : ℕ
   pub rested : Option ℕ
 
 -- they can be put in without taking memory
@@ -31,14 +31,14 @@ pub record IsSettled (p : DeliveryQueuesDraftOf) (settled : DeliveryQueuesPlanOf
   pub ground : settled.ground ≡ p.base
   pub touched : settled.touched ≡ p.touched
   pub next_place : settled.next_place ≡ p.next_place
-  pub lines : settled.lines ≡ p.lines
+  pub link_count : settled.link_count ≡ p.link_count
   -- nothing was left to offer at that moment
   pub rested : (moment : ℕ) → settled.rested ≡ Some moment → scanned (Offer moment) p ≡ []
 
 -- a queue that was touched is in the index where it belongs there
 abbrev pub relisted : Option PlacedQueue → Bool → Bool
 relisted None is_listed = is_listed
-relisted (Some placed) is_listed = is_active placed.queue.line
+relisted (Some placed) is_listed = is_active placed.queue.link
 
 -- the queues that were touched were put into the ground
 pub record IsInstalled (touched : List (ℕ × PlacedQueue)) (since : Option ℕ) (old new : SharedQueuesOf) : Type 0 where
@@ -55,12 +55,12 @@ IsPutIn settled new =
 pub record IsAdopted (settled : DeliveryQueuesPlanOf) (new : DeliveryQueuesOf) : Type 0 where
   pub put_in : IsPutIn settled new
   pub next_place : new.next_place ≡ settled.next_place
-  pub lines : new.lines ≡ settled.lines
+  pub link_count : new.link_count ≡ settled.link_count
 
 -- the same, one after the other
 abbrev pub relisted_all : ℕ → List (ℕ × PlacedQueue) → Bool → Bool
 relisted_all key [] is_listed = is_listed
-relisted_all key (e ∷ es) is_listed = relisted_all key es (if nat_eq key e.0 then is_active e.1.queue.line else is_listed)
+relisted_all key (e ∷ es) is_listed = relisted_all key es (if nat_eq key e.0 then is_active e.1.queue.link else is_listed)
 
 -- the queues that are under their keys, one after the other
 abbrev pub placed_all : ℕ → List (ℕ × PlacedQueue) → Option PlacedQueue → Option PlacedQueue

@@ -10,7 +10,7 @@ use Rattle.sms_centre_rows.specs.declared.waiting.handset.HandsetRow.{HandsetRow
 use Rattle.sms_centre_rows.specs.declared.waiting.handset_link.HandsetLink.{HandsetLink}
 use Rattle.sms_centre_rows.specs.declared.waiting.handset_link.Sent.{Sent}
 use Rattle.sms_centre_rows.specs.declared.waiting.reference.ReferenceRow.{ReferenceRow}
-use Rattle.sms_centre_rows.specs.waiting.Links.{new_line}
+use Rattle.sms_centre_rows.specs.waiting.Links.{new_link_to}
 use Rattle.sms_centre_queue.specs.queue.FreeReferences.{free_references}
 use Rattle.sms_centre_rows.specs.waiting.References.{given_row, mentioned, next_reference, or_new_handset}
 use Rattle.sms_centre_rows.specs.waiting.DeliveryQueues.{DeliveryQueueOf}
@@ -20,7 +20,7 @@ use Rattle.sms_centre_queue.specs.declared.queues.placed_queue.PlacedQueue.{Plac
 
 -- nothing was heard of the handset, and nothing waits for it
 abbrev pub new_placed : List ℕ → PlacedQueue
-new_placed number = record { queue = record { row = None; given = []; waiting = []; line = new_line number }; link_place = 0 }
+new_placed number = record { queue = record { row = None; given = []; waiting = []; link = new_link_to number }; link_place = 0 }
 
 abbrev pub or_new : List ℕ → Option PlacedQueue → PlacedQueue
 or_new number None = new_placed number
@@ -59,7 +59,7 @@ pub record DeliveryQueuesOf : Type 0 where
   -- the place of the next handset that is mentioned first
   pub next_place : ℕ
   -- how many links were used
-  pub lines : ℕ
+  pub link_count : ℕ
 
 -- ---- in the middle of an event
 
@@ -73,11 +73,19 @@ pub record DeliveryQueuesDraftOf : Type 0 where
   pub references : List (Change ReferenceRow)
   pub frames : List Sent
   pub next_place : ℕ
-  pub lines : ℕ
+  pub link_count : ℕ
 
 -- an event begins
 abbrev pub pending_of : DeliveryQueuesOf → DeliveryQueuesDraftOf
-pending_of s = record { base = s.ground; touched = s.touched; handsets = []; references = []; frames = []; next_place = s.next_place; lines = s.lines }
+pending_of s = record {
+  base = s.ground;
+  touched = s.touched;
+  handsets = [];
+  references = [];
+  frames = [];
+  next_place = s.next_place;
+  link_count = s.link_count;
+}
 
 -- it begins with these, the queues beside the ground in memory of its own
 pub record Continues (s : DeliveryQueuesOf) (p : DeliveryQueuesDraftOf) : Type 0 where
@@ -108,16 +116,16 @@ pub record IsTaken (number : List ℕ) (placed : PlacedQueue) (old new : Deliver
 
 -- where its link is first used now, its place is behind all others
 abbrev pub link_place_now : ℕ → ℕ → ℕ
-link_place_now link_place lines = if link_place == 0 then lines + 1 else link_place
+link_place_now link_place link_count = if link_place == 0 then link_count + 1 else link_place
 
-abbrev pub lines_now : ℕ → ℕ → ℕ
-lines_now link_place lines = if link_place == 0 then lines + 1 else lines
+abbrev pub link_count_now : ℕ → ℕ → ℕ
+link_count_now link_place link_count = if link_place == 0 then link_count + 1 else link_count
 
 abbrev pub counted : ℕ → List Sent → DeliveryQueuesDraftOf → DeliveryQueuesDraftOf
-counted lines frames p = record p { lines = lines; frames = frames }
+counted link_count frames p = record p { link_count = link_count; frames = frames }
 
-abbrev pub on_line : HandsetLink → ℕ → PlacedQueue → PlacedQueue
-on_line line link_place placed = record { queue = record placed.queue { line = line }; link_place = link_place }
+abbrev pub on_link : HandsetLink → ℕ → PlacedQueue → PlacedQueue
+on_link link link_place placed = record { queue = record placed.queue { link = link }; link_place = link_place }
 
 -- ---- giving a reference
 
@@ -140,9 +148,9 @@ given_to row was reference moment p = record p {
 -- the next reference at that queue
 abbrev pub reference_of : PlacedQueue → ℕ → ℕ → Option ℕ
 reference_of placed next_place now =
-    next_reference (or_new_handset placed.queue.line.handset next_place placed.queue.row) placed.queue.waiting placed.queue.given now
+    next_reference (or_new_handset placed.queue.link.handset next_place placed.queue.row) placed.queue.waiting placed.queue.given now
 
 -- how many references are free there
 abbrev pub free_at : PlacedQueue → ℕ → ℕ → ℕ
 free_at placed next_place now =
-    free_references (or_new_handset placed.queue.line.handset next_place placed.queue.row) placed.queue.waiting placed.queue.given now
+    free_references (or_new_handset placed.queue.link.handset next_place placed.queue.row) placed.queue.waiting placed.queue.given now

@@ -6,7 +6,7 @@ use Rattle.sms_rows.specs.table.Table.{put}
 use Rattle.sms_centre_rows.specs.declared.waiting.handset.HandsetRow.{HandsetRow}
 use Rattle.sms_centre_rows.specs.declared.waiting.handset_link.HandsetLink.{HandsetLink}
 use Rattle.sms_centre_rows.specs.declared.waiting.queued_part.QueuedPart.{QueuedPart}
-use Rattle.sms_centre_rows.specs.waiting.Links.{is_ready, line_of}
+use Rattle.sms_centre_rows.specs.waiting.Links.{is_ready, link_of}
 use Rattle.sms_centre_rows.specs.waiting.References.{handset_at}
 use Rattle.sms_centre_rows.specs.waiting.Waiting.{next}
 use Rattle.sms_centre_queue.specs.declared.queues.placed_queue.PlacedQueue.{PlacedQueue}
@@ -16,17 +16,17 @@ use Rattle.sms_centre_queue.specs.declared.queues.concern.Concern.TheVariants.{O
 use Rattle.sms_centre_queue.specs.queues.Keys.{stop_key}
 use Rattle.sms_centre_queue.specs.queues.Queues.{DeliveryQueuesDraftOf, at}
 
--- ---- whether it concerns a handset, by its row, its line and what waits for it
+-- ---- whether it concerns a handset, by its row, its link and what waits for it
 
--- the line is ready, and something is due
+-- the link is ready, and something is due
 abbrev pub is_offered : ℕ → HandsetLink → List QueuedPart → Bool
-is_offered now line waiting = is_ready line && is_some (next now waiting)
+is_offered now link waiting = is_ready link && is_some (next now waiting)
 
 abbrev pub is_wanted : Concern → Option HandsetRow → HandsetLink → List QueuedPart → Bool
-is_wanted (Offer now) row line waiting = is_offered now line waiting
-is_wanted (Fire now) row line waiting = is_due now line.link.links
-is_wanted (FireUnmentioned now) row line waiting = is_none row && is_due now line.link.links
-is_wanted Awaited row line waiting = line.is_awaited
+is_wanted (Offer now) row link waiting = is_offered now link waiting
+is_wanted (Fire now) row link waiting = is_due now link.near_end.links
+is_wanted (FireUnmentioned now) row link waiting = is_none row && is_due now link.near_end.links
+is_wanted Awaited row link waiting = link.is_awaited
 
 -- ---- all handsets, in their order
 
@@ -34,53 +34,53 @@ abbrev pub mention_stops : List HandsetRow → List ConcernedHandset
 mention_stops [] = []
 mention_stops (h ∷ hs) = record { order = h.place; number = h.number } ∷ mention_stops hs
 
--- where the first line has that place
-abbrev pub line_stops : ℕ → List HandsetLink → List ConcernedHandset
-line_stops place [] = []
-line_stops place (l ∷ ls) = record { order = place; number = l.handset } ∷ line_stops (place + 1) ls
+-- where the first link has that place
+abbrev pub link_stops : ℕ → List HandsetLink → List ConcernedHandset
+link_stops place [] = []
+link_stops place (l ∷ ls) = record { order = place; number = l.handset } ∷ link_stops (place + 1) ls
 
 abbrev pub stops_of : Concern → List HandsetRow → List HandsetLink → List ConcernedHandset
-stops_of (Offer now) handsets lines = mention_stops handsets
-stops_of (Fire now) handsets lines = mention_stops handsets
-stops_of (FireUnmentioned now) handsets lines = line_stops 1 lines
-stops_of Awaited handsets lines = line_stops 1 lines
+stops_of (Offer now) handsets links = mention_stops handsets
+stops_of (Fire now) handsets links = mention_stops handsets
+stops_of (FireUnmentioned now) handsets links = link_stops 1 links
+stops_of Awaited handsets links = link_stops 1 links
 
 -- ---- those that it concerns
 
 abbrev pub is_stop : Concern → List HandsetRow → List HandsetLink → (List ℕ → List QueuedPart) → ConcernedHandset → Bool
-is_stop purpose handsets lines waiting s = is_wanted purpose (handset_at s.number handsets) (line_of s.number lines) (waiting s.number)
+is_stop purpose handsets links waiting s = is_wanted purpose (handset_at s.number handsets) (link_of s.number links) (waiting s.number)
 
 abbrev pub found : Concern → List HandsetRow → List HandsetLink → (List ℕ → List QueuedPart) → List ConcernedHandset
-found purpose handsets lines waiting = filter (is_stop purpose handsets lines waiting) (stops_of purpose handsets lines)
+found purpose handsets links waiting = filter (is_stop purpose handsets links waiting) (stops_of purpose handsets links)
 
 -- ---- found by looking at few queues
 
 -- such an event can concern it
 abbrev pub is_active : HandsetLink → Bool
-is_active line = if line.is_up then true else (if line.is_awaited then true else is_timed line.link.links)
+is_active link = if link.is_up then true else (if link.is_awaited then true else is_timed link.near_end.links)
 
 -- the place of the queue in the order, if it has one
 abbrev pub place_of : Option HandsetRow → Option ℕ
 place_of None = None
 place_of (Some h) = Some h.place
 
-abbrev pub line_place : ℕ → Option ℕ
-line_place link_place = if link_place == 0 then None else Some link_place
+abbrev pub link_order : ℕ → Option ℕ
+link_order link_place = if link_place == 0 then None else Some link_place
 
 abbrev pub order_of : Concern → PlacedQueue → Option ℕ
 order_of (Offer now) placed = place_of placed.queue.row
 order_of (Fire now) placed = place_of placed.queue.row
-order_of (FireUnmentioned now) placed = line_place placed.link_place
-order_of Awaited placed = line_place placed.link_place
+order_of (FireUnmentioned now) placed = link_order placed.link_place
+order_of Awaited placed = link_order placed.link_place
 
 abbrev pub stop_in : PlacedQueue → Option ℕ → Option ConcernedHandset
 stop_in placed None = None
-stop_in placed (Some order) = Some (record { order = order; number = placed.queue.line.handset })
+stop_in placed (Some order) = Some (record { order = order; number = placed.queue.link.handset })
 
 -- the stop at a queue, if it is one
 abbrev pub stop_at : Concern → PlacedQueue → Option ConcernedHandset
 stop_at purpose placed =
-    if is_wanted purpose placed.queue.row placed.queue.line placed.queue.waiting then stop_in placed (order_of purpose placed) else None
+    if is_wanted purpose placed.queue.row placed.queue.link placed.queue.waiting then stop_in placed (order_of purpose placed) else None
 
 abbrev pub stop_if : Concern → Option PlacedQueue → Option ConcernedHandset
 stop_if purpose None = None

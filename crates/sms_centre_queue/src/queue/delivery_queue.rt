@@ -4,7 +4,7 @@ ghost use Rattle.sms_link.specs.LinkTurn.{begun, fired, replied, taken};
 ghost use Rattle.sms_rows.specs.table.Keys.{pair_key};
 ghost use Rattle.sms_rows.specs.table.Table.{row_at};
 ghost use Rattle.sms_centre_rows.specs.waiting.Keys.{queued_key};
-ghost use Rattle.sms_centre_rows.specs.waiting.Links.{emptied, filled, lowered, new_line, raised};
+ghost use Rattle.sms_centre_rows.specs.waiting.Links.{emptied, filled, lowered, new_link_to, raised};
 ghost use Rattle.sms_centre_rows.specs.waiting.References.{AreHeld, following as following_of, is_free as is_free_of, next_reference as next_reference_of};
 ghost use Rattle.sms_centre_rows.specs.waiting.References.{or_new_handset};
 ghost use Rattle.sms_centre_queue.specs.queue.FreeReferences.{free_references as free_references_of};
@@ -23,14 +23,14 @@ use sms_schedule::waiting::WaitingParts;
 use std::alloc::{AllocError, Global};
 use std::marker::Model;
 
-/// All that concerns one handset: its line, the references that were given there, and what waits for it.
+/// All that concerns one handset: its link, the references that were given there, and what waits for it.
 #[derive(Drop)]
 pub struct DeliveryQueue {
     alloc: Global,
     row: Option<HandsetRow>,
     given: GivenReferences,
     waiting: WaitingParts,
-    line: HandsetLink,
+    link: HandsetLink,
 }
 
 impl Model for DeliveryQueue {
@@ -39,40 +39,40 @@ impl Model for DeliveryQueue {
 
     ghost Value = { DeliveryQueueOf };
 
-    ghost view = { λ s. record { row = s.row; given = s.given; waiting = queued_of s.waiting; line = s.line } };
+    ghost view = { λ s. record { row = s.row; given = s.given; waiting = queued_of s.waiting; link = s.link } };
 }
 
 impl DeliveryQueue {
     /// The queue of a handset of which nothing was heard.
     pub fn new(alloc: Global, number: Msisdn) -> DeliveryQueue
-        ensures { result ≡ record { row = None; given = []; waiting = []; line = new_line number } }
+        ensures { result ≡ record { row = None; given = []; waiting = []; link = new_link_to number } }
     {
         DeliveryQueue {
             alloc,
             row: None,
             given: GivenReferences::new(alloc),
             waiting: WaitingParts::new(alloc),
-            line: HandsetLink::new(alloc, number),
+            link: HandsetLink::new(alloc, number),
         }
     }
 
-    /// The queue of the handset of that row, with the references that were given there. Nothing waits, and its line is new.
+    /// The queue of the handset of that row, with the references that were given there. Nothing waits, and its link is new.
     pub fn of_row(
         alloc: Global,
         row: HandsetRow,
         given: Table<ReferenceRow>,
     ) -> Result<DeliveryQueue, AllocError>
-        ensures { IfOk result (λ queue. queue ≡ record { row = Some row; given = given.rows; waiting = []; line = new_line row.number }) }
+        ensures { IfOk result (λ queue. queue ≡ record { row = Some row; given = given.rows; waiting = []; link = new_link_to row.number }) }
     {
         let given = GivenReferences::of(alloc, given)?;
         let waiting = WaitingParts::new(alloc);
-        let line = HandsetLink::new(alloc, row.number);
+        let link = HandsetLink::new(alloc, row.number);
         Ok(DeliveryQueue {
             alloc,
             row: Some(row),
             given,
             waiting,
-            line,
+            link,
         })
     }
 
@@ -82,21 +82,21 @@ impl DeliveryQueue {
     {
         let given = self.given.copy()?;
         let waiting = self.waiting.copy()?;
-        let line = self.line.copy()?;
+        let link = self.link.copy()?;
         Ok(DeliveryQueue {
             alloc: self.alloc,
             row: self.row,
             given,
             waiting,
-            line,
+            link,
         })
     }
 
-    /// The line to the handset.
-    pub fn line(&self) -> &HandsetLink
-        ensures { result.now ≡ self.now.line }
+    /// The link to the handset.
+    pub fn link(&self) -> &HandsetLink
+        ensures { result.now ≡ self.now.link }
     {
-        &self.line
+        &self.link
     }
 
     /// The row of the handset, if it was given a reference.
@@ -115,24 +115,24 @@ impl DeliveryQueue {
 
     /// How many parts and status reports wait, and how the link is.
     pub fn figures(&self) -> LinkFigures
-        ensures { result ≡ figures_of self.now.waiting self.now.line }
+        ensures { result ≡ figures_of self.now.waiting self.now.link }
     {
         LinkFigures {
             waiting: self.waiting.len(),
-            is_full: self.line.is_full,
-            is_under_way: self.line.link.under_way().is_some(),
+            is_full: self.link.is_full,
+            is_under_way: self.link.near_end.under_way().is_some(),
         }
     }
 
     /// The row of the handset, which takes that place if it was given no reference.
     pub fn row_or_new(&self, place: u32) -> HandsetRow
-        ensures { result ≡ or_new_handset self.now.line.handset place self.now.row }
+        ensures { result ≡ or_new_handset self.now.link.handset place self.now.row }
     {
         match self.row {
             Some(row) => row,
             None => HandsetRow {
                 place,
-                number: self.line.handset,
+                number: self.link.handset,
                 last_reference: 255,
             },
         }
@@ -253,41 +253,41 @@ impl DeliveryQueue {
 impl DeliveryQueue {
     /// The handset can be reached, and has memory.
     pub fn raise(&mut self)
-        ensures { self.new ≡ queue_on (raised self.old.line) self.old }
+        ensures { self.new ≡ queue_on (raised self.old.link) self.old }
     {
-        self.line.is_up = true;
-        self.line.is_awaited = false;
-        self.line.is_full = false;
+        self.link.is_up = true;
+        self.link.is_awaited = false;
+        self.link.is_full = false;
     }
 
     /// The link was up before a recovery, and is up again at the next tick.
     pub fn expect(&mut self)
-        ensures { self.new ≡ queue_on (record self.old.line { is_awaited = true }) self.old }
+        ensures { self.new ≡ queue_on (record self.old.link { is_awaited = true }) self.old }
     {
-        self.line.is_awaited = true;
+        self.link.is_awaited = true;
     }
 
     /// The handset can't be reached, and its next connection is a new one.
     pub fn lower(&mut self)
-        ensures { self.new ≡ queue_on (lowered self.old.line) self.old }
+        ensures { self.new ≡ queue_on (lowered self.old.link) self.old }
     {
-        self.line.is_up = false;
-        self.line.is_awaited = false;
-        put(&mut self.line.link, Link::new(self.alloc, Side::Centre));
+        self.link.is_up = false;
+        self.link.is_awaited = false;
+        put(&mut self.link.near_end, Link::new(self.alloc, Side::Centre));
     }
 
     /// The handset has no memory.
     pub fn fill(&mut self)
-        ensures { self.new ≡ queue_on (filled self.old.line) self.old }
+        ensures { self.new ≡ queue_on (filled self.old.link) self.old }
     {
-        self.line.is_full = true;
+        self.link.is_full = true;
     }
 
     /// The handset has memory again.
     pub fn empty(&mut self)
-        ensures { self.new ≡ queue_on (emptied self.old.line) self.old }
+        ensures { self.new ≡ queue_on (emptied self.old.link) self.old }
     {
-        self.line.is_full = false;
+        self.link.is_full = false;
     }
 
     /// A transaction to the handset, unless one is under way: a unit of 1 to 248 octets.
@@ -300,10 +300,10 @@ impl DeliveryQueue {
     ) -> Result<Listed<Outgoing>, AllocError>
         requires some { 0 < length unit.now }
         requires fits { length unit.now ≤ 248 }
-        ensures frames { IfOk result (λ frames. frames ≡ (begun now reference tag unit.now self.old.line.link).out.frames) }
-        ensures state { OnOk result (self.new ≡ queue_turned (begun now reference tag unit.now self.old.line.link) self.old) }
+        ensures frames { IfOk result (λ frames. frames ≡ (begun now reference tag unit.now self.old.link.near_end).out.frames) }
+        ensures state { OnOk result (self.new ≡ queue_turned (begun now reference tag unit.now self.old.link.near_end) self.old) }
     {
-        let frames = self.line.link.begin(now, reference, tag, unit)?;
+        let frames = self.link.near_end.begin(now, reference, tag, unit)?;
         Ok(frames)
     }
 
@@ -318,28 +318,28 @@ impl DeliveryQueue {
     ) -> Result<Listed<Outgoing>, AllocError>
         requires some { 0 < length unit.now }
         requires fits { length unit.now ≤ 248 }
-        ensures frames { IfOk result (λ frames. frames ≡ (replied now kind reference tag unit.now self.old.line.link).out.frames) }
-        ensures state { OnOk result (self.new ≡ queue_turned (replied now kind reference tag unit.now self.old.line.link) self.old) }
+        ensures frames { IfOk result (λ frames. frames ≡ (replied now kind reference tag unit.now self.old.link.near_end).out.frames) }
+        ensures state { OnOk result (self.new ≡ queue_turned (replied now kind reference tag unit.now self.old.link.near_end) self.old) }
     {
-        let frames = self.line.link.reply(now, kind, reference, tag, unit)?;
+        let frames = self.link.near_end.reply(now, kind, reference, tag, unit)?;
         Ok(frames)
     }
 
     /// Takes a frame of the handset, whatever its octets.
     pub fn take(&mut self, frame: &[u8]) -> Result<LinkOut, AllocError>
-        ensures out { IfOk result (λ out. out ≡ (taken frame.now self.old.line.link).out) }
-        ensures state { OnOk result (self.new ≡ queue_turned (taken frame.now self.old.line.link) self.old) }
+        ensures out { IfOk result (λ out. out ≡ (taken frame.now self.old.link.near_end).out) }
+        ensures state { OnOk result (self.new ≡ queue_turned (taken frame.now self.old.link.near_end) self.old) }
     {
-        let out = self.line.link.take(frame)?;
+        let out = self.link.near_end.take(frame)?;
         Ok(out)
     }
 
-    /// Lets the timers of the line fire that are due.
+    /// Lets the timers of the link fire that are due.
     pub fn fire(&mut self, now: Moment) -> Result<LinkOut, AllocError>
-        ensures out { IfOk result (λ out. out ≡ (fired now self.old.line.link).out) }
-        ensures state { OnOk result (self.new ≡ queue_turned (fired now self.old.line.link) self.old) }
+        ensures out { IfOk result (λ out. out ≡ (fired now self.old.link.near_end).out) }
+        ensures state { OnOk result (self.new ≡ queue_turned (fired now self.old.link.near_end) self.old) }
     {
-        let out = self.line.link.fire(now)?;
+        let out = self.link.near_end.fire(now)?;
         Ok(out)
     }
 }

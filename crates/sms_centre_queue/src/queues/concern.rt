@@ -26,12 +26,12 @@ impl Row for ConcernedHandset {
 /// Why an event stops at a handset.
 #[derive(Clone, Copy, PartialEq, Eq)]
 pub enum Concern {
-    /// A handset that was given a reference, whose line is ready and for which something is due.
+    /// A handset that was given a reference, whose link is ready and for which something is due.
     Offer(Moment),
-    /// A timer of its line fires; of those that were given a reference.
+    /// A timer of its link fires; of those that were given a reference.
     Fire(Moment),
-    /// A timer of its line fires; of those that were given none.
+    /// A timer of its link fires; of those that were given none.
     FireUnmentioned(Moment),
-    /// A handset whose line was up before a recovery.
+    /// A handset whose link was up before a recovery.
     Awaited,
 }

@@ -14,7 +14,7 @@ pub struct DeliveryQueues {
     pub(crate) ground: Arc<SharedQueues>,
     pub(crate) touched: IndexMap<u128, PlacedQueue>,
     pub(crate) next_place: u64,
-    pub(crate) lines: u64,
+    pub(crate) link_count: u64,
 }
 
 impl Model for DeliveryQueues {
@@ -22,5 +22,5 @@ impl Model for DeliveryQueues {
 
     ghost Value = { DeliveryQueuesOf };
 
-    ghost view = { λ s. record { ground = s.ground.value; touched = s.touched.entries; next_place = s.next_place; lines = s.lines } };
+    ghost view = { λ s. record { ground = s.ground.value; touched = s.touched.entries; next_place = s.next_place; link_count = s.link_count } };
 }

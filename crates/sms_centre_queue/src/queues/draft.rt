@@ -7,7 +7,7 @@ ghost use Rattle.sms_centre_rows.specs.declared.waiting.handset.HandsetRow.{Hand
 ghost use Rattle.sms_centre_rows.specs.declared.waiting.handset_link.HandsetLink.{HandsetLink};
 ghost use Rattle.sms_centre_rows.specs.declared.waiting.queued_part.QueuedPart.{QueuedPart};
 ghost use Rattle.sms_centre_rows.specs.declared.waiting.reference.ReferenceRow.{ReferenceRow as ReferenceRowOf};
-ghost use Rattle.sms_centre_queue.specs.queues.Queues.{Becomes, Continues, IsTaken, at, link_place_now, counted, lines_now, under};
+ghost use Rattle.sms_centre_queue.specs.queues.Queues.{Becomes, Continues, IsTaken, at, link_place_now, counted, link_count_now, under};
 ghost use Rattle.sms_centre_queue.specs.queues.Representing.{Begins, Represents};
 ghost use Rattle.sms_centre_queue.specs.queues.Stops.{all_noted, noted, scanned, stop_if};
 
@@ -35,7 +35,7 @@ pub struct DeliveryQueuesDraft {
     pub(crate) references: Listed<Change<ReferenceRow>>,
     pub(crate) frames: Listed<Sent>,
     pub(crate) next_place: u64,
-    pub(crate) lines: u64,
+    pub(crate) link_count: u64,
 }
 
 impl Model for DeliveryQueuesDraft {
@@ -50,16 +50,16 @@ impl Model for DeliveryQueuesDraft {
       references = p.references;
       frames = p.frames;
       next_place = p.next_place;
-      lines = p.lines;
+      link_count = p.link_count;
     } };
 }
 
 impl DeliveryQueuesDraft {
     /// The queues as an event begins.
     pub fn of(alloc: Global, base: &DeliveryQueues) -> Result<DeliveryQueuesDraft, AllocError>
-        ensures { (handsets : List HandsetRowOf) (references : List ReferenceRowOf) (lines : List HandsetLink) (waiting : List ℕ → List QueuedPart)
-            → Represents handsets references lines waiting base.now
-            → IfOk result (Begins handsets references lines waiting) }
+        ensures { (handsets : List HandsetRowOf) (references : List ReferenceRowOf) (links : List HandsetLink) (waiting : List ℕ → List QueuedPart)
+            → Represents handsets references links waiting base.now
+            → IfOk result (Begins handsets references links waiting) }
     {
         let pending = DeliveryQueuesDraft::share(alloc, base)?;
         Ok(pending)
@@ -78,7 +78,7 @@ impl DeliveryQueuesDraft {
                 references: Listed::new(alloc),
                 frames: Listed::new(alloc),
                 next_place: base.next_place,
-                lines: base.lines,
+                link_count: base.link_count,
             }),
             Err(error) => {
                 drop(touched);
@@ -121,45 +121,45 @@ impl DeliveryQueuesDraft {
 
     /// Gives a link that has no place yet one behind all others.
     pub(crate) fn add_link(&mut self, placed: &mut PlacedQueue) -> Result<(), AllocError>
-        ensures placed { OnOk result (placed.new ≡ record placed.old { link_place = link_place_now placed.old.link_place self.old.lines }) }
-        ensures lines { OnOk result (self.new ≡ record self.old { lines = lines_now placed.old.link_place self.old.lines }) }
+        ensures placed { OnOk result (placed.new ≡ record placed.old { link_place = link_place_now placed.old.link_place self.old.link_count }) }
+        ensures link_count { OnOk result (self.new ≡ record self.old { link_count = link_count_now placed.old.link_place self.old.link_count }) }
     {
         if placed.link_place != 0 {
             return Ok(());
         }
-        let Some(lines) = self.lines.checked_add(1) else {
+        let Some(link_count) = self.link_count.checked_add(1) else {
             return Err(AllocError);
         };
-        self.lines = lines;
-        placed.link_place = lines;
+        self.link_count = link_count;
+        placed.link_place = link_count;
         Ok(())
     }
 
     /// Puts the queue of the handset back, whose link is new or has changed, and sends frames on it.
-    pub(crate) fn put_line(
+    pub(crate) fn put_link(
         &mut self,
         number: Msisdn,
         placed: PlacedQueue,
         frames: Listed<Outgoing>,
     ) -> Result<(), AllocError>
-        ensures { OnOk result (Becomes (digits_key number) (record placed { link_place = link_place_now placed.link_place self.old.lines })
-            (counted (lines_now placed.link_place self.old.lines) (self.old.frames ++ to_handset number frames) self.old) self.new) }
+        ensures { OnOk result (Becomes (digits_key number) (record placed { link_place = link_place_now placed.link_place self.old.link_count })
+            (counted (link_count_now placed.link_place self.old.link_count) (self.old.frames ++ to_handset number frames) self.old) self.new) }
     {
         let mut placed = placed;
-        let noted = self.note_line(number, &mut placed, frames);
+        let noted = self.note_link(number, &mut placed, frames);
         self.put_back(number, placed)?;
         noted
     }
 
     // Its link has a place, and the frames are sent on it.
-    fn note_line(
+    fn note_link(
         &mut self,
         number: Msisdn,
         placed: &mut PlacedQueue,
         frames: Listed<Outgoing>,
     ) -> Result<(), AllocError>
-        ensures placed { OnOk result (placed.new ≡ record placed.old { link_place = link_place_now placed.old.link_place self.old.lines }) }
-        ensures sent { OnOk result (self.new ≡ counted (lines_now placed.old.link_place self.old.lines)
+        ensures placed { OnOk result (placed.new ≡ record placed.old { link_place = link_place_now placed.old.link_place self.old.link_count }) }
+        ensures sent { OnOk result (self.new ≡ counted (link_count_now placed.old.link_place self.old.link_count)
             (self.old.frames ++ to_handset number frames) self.old) }
     {
         push_sent(&mut self.frames, number, frames)?;

@@ -14,7 +14,7 @@ ghost use Rattle.sms_centre_queue.specs.declared.queues.concern.ConcernedHandset
 pub fn an_adopted_plan_represents_its_rows()
     ensures { (g : Allocations) (links : Links) (waiting : List ℕ
         → List QueuedPart) (p : DeliveryQueuesDraftOf) (s : DeliveryQueuesPlanOf) (new : DeliveryQueuesOf)
-        → DraftRepresents g links waiting p → IsSettled p s → IsAdopted s new → Represents (handsets_of g) (references_of g) links.lines waiting new }
+        → DraftRepresents g links waiting p → IsSettled p s → IsAdopted s new → Represents (handsets_of g) (references_of g) links.all waiting new }
 {}
 
 /// An event that walks over all handsets may walk over those alone that it concerns as it begins.

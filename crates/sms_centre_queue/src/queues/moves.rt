@@ -4,13 +4,13 @@ ghost use Rattle.sms_link.specs.LinkTurn.{begun, fired, replied, taken};
 ghost use Rattle.sms_rows.specs.table.Keys.{digits_key, pair_key};
 ghost use Rattle.sms_rows.specs.table.Table.{put, without};
 ghost use Rattle.sms_centre_rows.specs.waiting.Keys.{queued_key};
-ghost use Rattle.sms_centre_rows.specs.waiting.Links.{Links, emptied, filled, line_of, lowered, put_line as put_line_in, raised, to_handset, turn_line};
+ghost use Rattle.sms_centre_rows.specs.waiting.Links.{Links, emptied, filled, link_of, lowered, put_link as put_link_in, raised, to_handset, turn_link};
 ghost use Rattle.sms_centre_rows.specs.waiting.DeliveryQueues.{queue_given, queue_with};
 ghost use Rattle.sms_centre_rows.specs.waiting.References.{Allocations, give as give_in, handset_of, handsets_of, or_new_handset};
 ghost use Rattle.sms_centre_rows.specs.waiting.Waiting.{all_at_once, withdrawn};
 ghost use Rattle.sms_centre_rows.specs.declared.waiting.queued_part.QueuedPart.{QueuedPart as QueuedOf};
-ghost use Rattle.sms_centre_queue.specs.queues.LineOrder.{expected};
-ghost use Rattle.sms_centre_queue.specs.queues.Queues.{Becomes, HasNoPlace, counted, given_to, lines_now, link_place_now, with_queue};
+ghost use Rattle.sms_centre_queue.specs.queues.LinkOrder.{expected};
+ghost use Rattle.sms_centre_queue.specs.queues.Queues.{Becomes, HasNoPlace, counted, given_to, link_count_now, link_place_now, with_queue};
 ghost use Rattle.sms_centre_queue.specs.queues.Representing.{DraftRepresents, Waits};
 
 use crate::queues::draft::DeliveryQueuesDraft;
@@ -71,56 +71,56 @@ impl DeliveryQueuesDraft {
     /// The handset can be reached, and has memory.
     pub fn raise(&mut self, number: Msisdn) -> Result<(), AllocError>
         ensures { OnOk result ((g : Allocations) (links : Links) (waiting : List ℕ → List QueuedOf) → DraftRepresents g links waiting self.old
-            → DraftRepresents g (put_line_in (raised (line_of number links.lines)) links) waiting self.new) }
+            → DraftRepresents g (put_link_in (raised (link_of number links.all)) links) waiting self.new) }
     {
         let mut placed = self.take_out(number)?;
         placed.queue.raise();
         let none = Listed::new(self.alloc);
-        self.put_line(number, placed, none)
+        self.put_link(number, placed, none)
     }
 
     /// The handset's link was up before a recovery, and is up again at the next tick.
     pub fn expect(&mut self, number: Msisdn) -> Result<(), AllocError>
         ensures { OnOk result ((g : Allocations) (links : Links) (waiting : List ℕ → List QueuedOf) → DraftRepresents g links waiting self.old
-            → DraftRepresents g (put_line_in (expected (line_of number links.lines)) links) waiting self.new) }
+            → DraftRepresents g (put_link_in (expected (link_of number links.all)) links) waiting self.new) }
     {
         let mut placed = self.take_out(number)?;
         placed.queue.expect();
         let none = Listed::new(self.alloc);
-        self.put_line(number, placed, none)
+        self.put_link(number, placed, none)
     }
 
     /// The handset can't be reached, and its next connection is a new one.
     pub fn lower(&mut self, number: Msisdn) -> Result<(), AllocError>
         ensures { OnOk result ((g : Allocations) (links : Links) (waiting : List ℕ → List QueuedOf) → DraftRepresents g links waiting self.old
-            → DraftRepresents g (put_line_in (lowered (line_of number links.lines)) links) waiting self.new) }
+            → DraftRepresents g (put_link_in (lowered (link_of number links.all)) links) waiting self.new) }
     {
         let mut placed = self.take_out(number)?;
         placed.queue.lower();
         let none = Listed::new(self.alloc);
-        self.put_line(number, placed, none)
+        self.put_link(number, placed, none)
     }
 
     /// The handset has no memory.
     pub fn fill(&mut self, number: Msisdn) -> Result<(), AllocError>
         ensures { OnOk result ((g : Allocations) (links : Links) (waiting : List ℕ → List QueuedOf) → DraftRepresents g links waiting self.old
-            → DraftRepresents g (put_line_in (filled (line_of number links.lines)) links) waiting self.new) }
+            → DraftRepresents g (put_link_in (filled (link_of number links.all)) links) waiting self.new) }
     {
         let mut placed = self.take_out(number)?;
         placed.queue.fill();
         let none = Listed::new(self.alloc);
-        self.put_line(number, placed, none)
+        self.put_link(number, placed, none)
     }
 
     /// The handset has memory again.
     pub fn empty(&mut self, number: Msisdn) -> Result<(), AllocError>
         ensures { OnOk result ((g : Allocations) (links : Links) (waiting : List ℕ → List QueuedOf) → DraftRepresents g links waiting self.old
-            → DraftRepresents g (put_line_in (emptied (line_of number links.lines)) links) waiting self.new) }
+            → DraftRepresents g (put_link_in (emptied (link_of number links.all)) links) waiting self.new) }
     {
         let mut placed = self.take_out(number)?;
         placed.queue.empty();
         let none = Listed::new(self.alloc);
-        self.put_line(number, placed, none)
+        self.put_link(number, placed, none)
     }
 }
 
@@ -137,12 +137,12 @@ impl DeliveryQueuesDraft {
         requires some { 0 < length unit.now }
         requires fits { length unit.now ≤ 248 }
         ensures { OnOk result ((g : Allocations) (links : Links) (waiting : List ℕ → List QueuedOf) → DraftRepresents g links waiting self.old
-            → DraftRepresents g (turn_line (line_of number links.lines)
-            (begun now reference tag unit.now (line_of number links.lines).link) links) waiting self.new) }
+            → DraftRepresents g (turn_link (link_of number links.all)
+            (begun now reference tag unit.now (link_of number links.all).near_end) links) waiting self.new) }
     {
         let mut placed = self.take_out(number)?;
         match placed.queue.begin(now, reference, tag, unit) {
-            Ok(frames) => self.put_line(number, placed, frames),
+            Ok(frames) => self.put_link(number, placed, frames),
             Err(error) => {
                 drop(placed);
                 Err(error)
@@ -163,12 +163,12 @@ impl DeliveryQueuesDraft {
         requires some { 0 < length unit.now }
         requires fits { length unit.now ≤ 248 }
         ensures { OnOk result ((g : Allocations) (links : Links) (waiting : List ℕ → List QueuedOf) → DraftRepresents g links waiting self.old
-            → DraftRepresents g (turn_line (line_of number links.lines)
-            (replied now kind reference tag unit.now (line_of number links.lines).link) links) waiting self.new) }
+            → DraftRepresents g (turn_link (link_of number links.all)
+            (replied now kind reference tag unit.now (link_of number links.all).near_end) links) waiting self.new) }
     {
         let mut placed = self.take_out(number)?;
         match placed.queue.reply(now, kind, reference, tag, unit) {
-            Ok(frames) => self.put_line(number, placed, frames),
+            Ok(frames) => self.put_link(number, placed, frames),
             Err(error) => {
                 drop(placed);
                 Err(error)
@@ -179,9 +179,9 @@ impl DeliveryQueuesDraft {
     /// Takes a frame of the handset, whatever its octets, and gives what its link passes up.
     pub fn take(&mut self, number: Msisdn, frame: &[u8]) -> Result<Option<Upward>, AllocError>
         ensures up { IfOk result (λ up. (g : Allocations) (links : Links) (waiting : List ℕ → List QueuedOf) → DraftRepresents g links waiting self.old
-            → up ≡ (taken frame.now (line_of number links.lines).link).out.up) }
+            → up ≡ (taken frame.now (link_of number links.all).near_end).out.up) }
         ensures state { OnOk result ((g : Allocations) (links : Links) (waiting : List ℕ → List QueuedOf) → DraftRepresents g links waiting self.old
-            → DraftRepresents g (turn_line (line_of number links.lines) (taken frame.now (line_of number links.lines).link) links) waiting self.new) }
+            → DraftRepresents g (turn_link (link_of number links.all) (taken frame.now (link_of number links.all).near_end) links) waiting self.new) }
     {
         let mut placed = self.take_out(number)?;
         match placed.queue.take(frame) {
@@ -196,9 +196,9 @@ impl DeliveryQueuesDraft {
     /// Lets the timers of the link fire that are due, and gives what it passes up.
     pub fn fire(&mut self, number: Msisdn, now: Moment) -> Result<Option<Upward>, AllocError>
         ensures up { IfOk result (λ up. (g : Allocations) (links : Links) (waiting : List ℕ → List QueuedOf) → DraftRepresents g links waiting self.old
-            → up ≡ (fired now (line_of number links.lines).link).out.up) }
+            → up ≡ (fired now (link_of number links.all).near_end).out.up) }
         ensures state { OnOk result ((g : Allocations) (links : Links) (waiting : List ℕ → List QueuedOf) → DraftRepresents g links waiting self.old
-            → DraftRepresents g (turn_line (line_of number links.lines) (fired now (line_of number links.lines).link) links) waiting self.new) }
+            → DraftRepresents g (turn_link (link_of number links.all) (fired now (link_of number links.all).near_end) links) waiting self.new) }
     {
         let mut placed = self.take_out(number)?;
         match placed.queue.fire(now) {
@@ -218,11 +218,11 @@ impl DeliveryQueuesDraft {
         out: LinkOut,
     ) -> Result<Option<Upward>, AllocError>
         ensures up { IfOk result (λ up. up ≡ out.up) }
-        ensures state { OnOk result (Becomes (digits_key number) (record placed { link_place = link_place_now placed.link_place self.old.lines })
-            (counted (lines_now placed.link_place self.old.lines) (self.old.frames ++ to_handset number out.frames) self.old) self.new) }
+        ensures state { OnOk result (Becomes (digits_key number) (record placed { link_place = link_place_now placed.link_place self.old.link_count })
+            (counted (link_count_now placed.link_place self.old.link_count) (self.old.frames ++ to_handset number out.frames) self.old) self.new) }
     {
         let up = out.up;
-        match self.put_line(number, placed, out.frames) {
+        match self.put_link(number, placed, out.frames) {
             Ok(()) => Ok(up),
             Err(error) => {
                 drop(up);
@@ -258,10 +258,10 @@ impl DeliveryQueuesDraft {
         now: Moment,
         queued: QueuedPart,
     ) -> Result<(), AllocError>
-        ensures noted { OnOk result (self.new ≡ given_to (or_new_handset placed.old.queue.line.handset self.old.next_place placed.old.queue.row)
+        ensures noted { OnOk result (self.new ≡ given_to (or_new_handset placed.old.queue.link.handset self.old.next_place placed.old.queue.row)
             placed.old.queue.row queued.reference now self.old) }
         ensures placed { OnOk result (placed.new ≡ with_queue (queue_with queued
-            (queue_given (or_new_handset placed.old.queue.line.handset self.old.next_place placed.old.queue.row)
+            (queue_given (or_new_handset placed.old.queue.link.handset self.old.next_place placed.old.queue.row)
             queued.reference now placed.old.queue)) placed.old) }
     {
         self.give_there(placed, queued.reference, now)?;
@@ -275,10 +275,10 @@ impl DeliveryQueuesDraft {
         reference: u8,
         now: Moment,
     ) -> Result<(), AllocError>
-        ensures noted { OnOk result (self.new ≡ given_to (or_new_handset placed.old.queue.line.handset self.old.next_place placed.old.queue.row)
+        ensures noted { OnOk result (self.new ≡ given_to (or_new_handset placed.old.queue.link.handset self.old.next_place placed.old.queue.row)
             placed.old.queue.row reference now self.old) }
         ensures placed { OnOk result (placed.new ≡ with_queue
-            (queue_given (or_new_handset placed.old.queue.line.handset self.old.next_place placed.old.queue.row)
+            (queue_given (or_new_handset placed.old.queue.link.handset self.old.next_place placed.old.queue.row)
             reference now placed.old.queue) placed.old) }
     {
         let Some(row) = self.row_for(placed) else {
@@ -290,7 +290,7 @@ impl DeliveryQueuesDraft {
 
     /// The row under which the queue's next reference is given, where a place is left for it.
     pub(crate) fn row_for(&self, placed: &PlacedQueue) -> Option<HandsetRow>
-        ensures some { IfSome result (λ row. row ≡ or_new_handset placed.now.queue.line.handset self.now.next_place placed.now.queue.row) }
+        ensures some { IfSome result (λ row. row ≡ or_new_handset placed.now.queue.link.handset self.now.next_place placed.now.queue.row) }
         ensures none { IfNone result (HasNoPlace self.now.next_place placed.now.queue.row) }
     {
         match placed.queue.row() {

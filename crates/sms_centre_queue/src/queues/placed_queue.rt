@@ -2,7 +2,7 @@
 ghost use Rattle.std.specs.Prelude.{◌≡◌, IfOk, Some, None};
 ghost use Rattle.sms_centre_queue.specs.queues.Queues.{new_placed};
 ghost use Rattle.sms_centre_queue.specs.queues.Stops.{is_active, is_wanted as is_wanted_of, order_of, stop_at};
-ghost use Rattle.sms_centre_queue.specs.queues.Unlined.{unlined as unlined_of};
+ghost use Rattle.sms_centre_queue.specs.queues.Unlinked.{unlinked as unlinked_of};
 
 use crate::queue::DeliveryQueue;
 use crate::queues::concern::{Concern, ConcernedHandset};
@@ -39,8 +39,8 @@ impl PlacedQueue {
     }
 
     /// A copy without its link, in memory of its own.
-    pub(crate) fn unlined(&self) -> Result<PlacedQueue, AllocError>
-        ensures { IfOk result (λ placed. placed ≡ unlined_of self.now) }
+    pub(crate) fn unlinked(&self) -> Result<PlacedQueue, AllocError>
+        ensures { IfOk result (λ placed. placed ≡ unlinked_of self.now) }
     {
         let mut queue = self.queue.copy()?;
         queue.lower();
@@ -53,27 +53,27 @@ impl PlacedQueue {
 
     /// Whether an event that isn't the handset's own can concern it.
     pub(crate) fn is_active(&self) -> bool
-        ensures { result ≡ is_active self.now.queue.line }
+        ensures { result ≡ is_active self.now.queue.link }
     {
-        let line = self.queue.line();
-        if line.is_up {
+        let link = self.queue.link();
+        if link.is_up {
             return true;
         }
-        if line.is_awaited {
+        if link.is_awaited {
             return true;
         }
-        line.link.is_timed()
+        link.near_end.is_timed()
     }
 
     fn is_wanted(&self, purpose: &Concern) -> bool
-        ensures { result ≡ is_wanted_of purpose.now self.now.queue.row self.now.queue.line self.now.queue.waiting }
+        ensures { result ≡ is_wanted_of purpose.now self.now.queue.row self.now.queue.link self.now.queue.waiting }
     {
-        let line = self.queue.line();
+        let link = self.queue.link();
         match purpose {
-            Concern::Offer(now) => line.is_ready() && self.queue.next(*now).is_some(),
-            Concern::Fire(now) => line.link.is_due(*now),
-            Concern::FireUnmentioned(now) => self.queue.row().is_none() && line.link.is_due(*now),
-            Concern::Awaited => line.is_awaited,
+            Concern::Offer(now) => link.is_ready() && self.queue.next(*now).is_some(),
+            Concern::Fire(now) => link.near_end.is_due(*now),
+            Concern::FireUnmentioned(now) => self.queue.row().is_none() && link.near_end.is_due(*now),
+            Concern::Awaited => link.is_awaited,
         }
     }
 
@@ -103,7 +103,7 @@ impl PlacedQueue {
         match self.order(purpose) {
             Some(order) => Some(ConcernedHandset {
                 order,
-                number: self.queue.line().handset,
+                number: self.queue.link().handset,
             }),
             None => None,
         }

@@ -27,7 +27,7 @@ pub struct DeliveryQueuesPlan {
     reserve: MapReserve<PlacedQueue>,
     index_reserve: MapReserve<()>,
     next_place: u64,
-    lines: u64,
+    link_count: u64,
     rested: Option<Moment>,
 }
 
@@ -42,7 +42,7 @@ impl Model for DeliveryQueuesPlan {
       reserve = s.reserve;
       index_reserve = s.index_reserve;
       next_place = s.next_place;
-      lines = s.lines;
+      link_count = s.link_count;
       rested = s.rested;
     } };
 }
@@ -125,7 +125,7 @@ impl DeliveryQueuesDraft {
                 reserve: prepared.reserve,
                 index_reserve: prepared.index_reserve,
                 next_place: self.next_place,
-                lines: self.lines,
+                link_count: self.link_count,
                 rested: prepared.rested,
             },
         }
@@ -158,13 +158,13 @@ impl DeliveryQueues {
             reserve,
             index_reserve,
             next_place,
-            lines,
+            link_count,
             rested,
         } = settled;
         let alloc = self.alloc;
         put(&mut self.ground, ground);
         self.next_place = next_place;
-        self.lines = lines;
+        self.link_count = link_count;
         match Arc::get_mut(&mut self.ground) {
             Some(ground) => {
                 ground.install(reserve, index_reserve, touched, rested);

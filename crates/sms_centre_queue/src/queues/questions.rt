@@ -4,7 +4,7 @@ ghost use Rattle.sms_base.specs.Msisdn.{IsMsisdn};
 ghost use Rattle.sms_rows.specs.table.Keys.{pair_key};
 ghost use Rattle.sms_rows.specs.table.Table.{row_at};
 ghost use Rattle.sms_centre_rows.specs.waiting.Keys.{queued_key};
-ghost use Rattle.sms_centre_rows.specs.waiting.Links.{Links, is_ready as is_ready_of, line_of};
+ghost use Rattle.sms_centre_rows.specs.waiting.Links.{Links, is_ready as is_ready_of, link_of};
 ghost use Rattle.sms_centre_rows.specs.waiting.References.{Allocations, handset_at, handset_of, handsets_of, next_reference as next_reference_of, place_after};
 ghost use Rattle.sms_centre_rows.specs.waiting.References.{references_of};
 ghost use Rattle.sms_centre_queue.specs.queue.FreeReferences.{free_references};
@@ -81,10 +81,10 @@ impl DeliveryQueuesDraft {
     /// Whether something may be offered to the handset.
     pub fn is_ready(&self, number: &Msisdn) -> bool
         ensures { (g : Allocations) (links : Links) (waiting : List ℕ → List QueuedOf) → DraftRepresents g links waiting self.now
-            → result ≡ is_ready_of (line_of number.now links.lines) }
+            → result ≡ is_ready_of (link_of number.now links.all) }
     {
         match self.placed(Key::handset(number).number()) {
-            Some(placed) => placed.queue.line().is_ready(),
+            Some(placed) => placed.queue.link().is_ready(),
             None => false,
         }
     }
@@ -92,10 +92,10 @@ impl DeliveryQueuesDraft {
     /// What the transaction to the handset carries that is under way.
     pub fn under_way(&self, number: &Msisdn) -> Option<Carried>
         ensures { (g : Allocations) (links : Links) (waiting : List ℕ → List QueuedOf) → DraftRepresents g links waiting self.now
-            → result ≡ (line_of number.now links.lines).link.under_way }
+            → result ≡ (link_of number.now links.all).near_end.under_way }
     {
         match self.placed(Key::handset(number).number()) {
-            Some(placed) => placed.queue.line().link.under_way(),
+            Some(placed) => placed.queue.link().near_end.under_way(),
             None => None,
         }
     }
@@ -188,7 +188,7 @@ impl DeliveryQueuesDraft {
     /// last.
     pub fn stops(&self, purpose: &Concern) -> Result<Vec<ConcernedHandset>, AllocError>
         ensures { IfOk result (λ stops. (g : Allocations) (links : Links) (waiting : List ℕ → List QueuedOf) → DraftRepresents g links waiting self.now
-            → stops.items ≡ found purpose.now (handsets_of g) links.lines waiting) }
+            → stops.items ≡ found purpose.now (handsets_of g) links.all waiting) }
     {
         let stops = self.scan(purpose)?;
         Ok(stops)

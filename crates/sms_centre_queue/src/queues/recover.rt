@@ -56,7 +56,7 @@ impl DeliveryQueues {
             ground,
             touched: IndexMap::new(alloc),
             next_place,
-            lines: 0,
+            link_count: 0,
         })
     }
 }

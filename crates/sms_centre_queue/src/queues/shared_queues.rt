@@ -157,7 +157,7 @@ fn relist(index: &mut IndexMap<u128, ()>, touched: &IndexMap<u128, PlacedQueue>)
 #[tactic(auto, using(crate::proofs::queues::Listing::listed_as))]
 fn list_one(index: &mut IndexMap<u128, ()>, key: u128, placed: &PlacedQueue)
     requires room { 0 < reserve_of index.old }
-    ensures listed { (k : ℕ) → is_listed k index.new.entries ≡ (if nat_eq k key then is_active placed.now.queue.line else is_listed k index.old.entries) }
+    ensures listed { (k : ℕ) → is_listed k index.new.entries ≡ (if nat_eq k key then is_active placed.now.queue.link else is_listed k index.old.entries) }
     ensures room { reserve_of index.old ≤ reserve_of index.new + 1 }
 {
     if placed.is_active() {

@@ -1,6 +1,6 @@
 //! What an operator may want to know of the link to a handset.
 ghost use Rattle.std.specs.Prelude.{◌≡◌, ℕ, List, option_copied};
-ghost use Rattle.sms_centre_rows.specs.waiting.Links.{line_of};
+ghost use Rattle.sms_centre_rows.specs.waiting.Links.{link_of};
 ghost use Rattle.sms_centre_rows.specs.declared.waiting.handset.HandsetRow.{HandsetRow};
 ghost use Rattle.sms_centre_rows.specs.declared.waiting.handset_link.HandsetLink.{HandsetLink};
 ghost use Rattle.sms_centre_rows.specs.declared.waiting.queued_part.QueuedPart.{QueuedPart};
@@ -28,9 +28,9 @@ impl DeliveryQueues {
 
     /// How many parts and status reports wait for the handset, and how its link is.
     pub fn figures(&self, number: &Msisdn) -> LinkFigures
-        ensures { (handsets : List HandsetRow) (references : List ReferenceRow) (lines : List HandsetLink) (waiting : List ℕ → List QueuedPart)
-            → Represents handsets references lines waiting self.now → result ≡ figures_of (waiting number.now)
-            (line_of number.now lines) }
+        ensures { (handsets : List HandsetRow) (references : List ReferenceRow) (links : List HandsetLink) (waiting : List ℕ → List QueuedPart)
+            → Represents handsets references links waiting self.now → result ≡ figures_of (waiting number.now)
+            (link_of number.now links) }
     {
         match self.placed(Key::handset(number).number()) {
             Some(placed) => placed.queue.figures(),
@@ -44,11 +44,11 @@ impl DeliveryQueues {
 
     /// What the transaction to the handset carries that is under way.
     pub fn under_way(&self, number: &Msisdn) -> Option<Carried>
-        ensures { (handsets : List HandsetRow) (references : List ReferenceRow) (lines : List HandsetLink) (waiting : List ℕ → List QueuedPart)
-            → Represents handsets references lines waiting self.now → result ≡ (line_of number.now lines).link.under_way }
+        ensures { (handsets : List HandsetRow) (references : List ReferenceRow) (links : List HandsetLink) (waiting : List ℕ → List QueuedPart)
+            → Represents handsets references links waiting self.now → result ≡ (link_of number.now links).near_end.under_way }
     {
         match self.placed(Key::handset(number).number()) {
-            Some(placed) => placed.queue.line().link.under_way(),
+            Some(placed) => placed.queue.link().near_end.under_way(),
             None => None,
         }
     }

@@ -6,7 +6,7 @@ ghost use Rattle.sms_centre_rows.specs.waiting.References.{Allocations};
 ghost use Rattle.sms_centre_rows.specs.declared.waiting.queued_part.QueuedPart.{QueuedPart as QueuedOf};
 ghost use Rattle.sms_centre_queue.specs.queues.Queues.{at, under};
 ghost use Rattle.sms_centre_queue.specs.queues.Representing.{DraftRepresents};
-ghost use Rattle.sms_centre_queue.specs.queues.Unlined.{unlined as unlined_of};
+ghost use Rattle.sms_centre_queue.specs.queues.Unlinked.{unlinked as unlinked_of};
 
 use crate::queues::draft::DeliveryQueuesDraft;
 use crate::queues::keyed::put_under;
@@ -16,24 +16,24 @@ use sms_base::lending::put;
 use std::alloc::{AllocError, Global};
 
 impl DeliveryQueuesDraft {
-    /// No handset has a line any more, as after a restart: whatever was up, awaited, full or under way is forgotten. What waits, and the
+    /// No handset has a link any more, as after a restart: whatever was up, awaited, full or under way is forgotten. What waits, and the
     /// references that were given, stay. Every queue is copied.
-    pub fn forget_lines(&mut self) -> Result<(), AllocError>
+    pub fn forget_links(&mut self) -> Result<(), AllocError>
         ensures { OnOk result ((g : Allocations) (links : Links) (waiting : List ℕ → List QueuedOf) → DraftRepresents g links waiting self.old
-            → DraftRepresents g (record links { lines = [] }) waiting self.new) }
+            → DraftRepresents g (record links { all = [] }) waiting self.new) }
     {
-        let queues = self.unlined(self.alloc)?;
+        let queues = self.unlinked(self.alloc)?;
         put(&mut self.touched, queues);
-        self.lines = 0;
+        self.link_count = 0;
         Ok(())
     }
 
-    // All queues without their lines.
-    fn unlined(&self, alloc: Global) -> Result<IndexMap<u128, PlacedQueue>, AllocError>
-        ensures { IfOk result (λ queues. (key : ℕ) → under key queues.entries ≡ option_map unlined_of (at key self.now)) }
+    // All queues without their links.
+    fn unlinked(&self, alloc: Global) -> Result<IndexMap<u128, PlacedQueue>, AllocError>
+        ensures { IfOk result (λ queues. (key : ℕ) → under key queues.entries ≡ option_map unlinked_of (at key self.now)) }
     {
         let mut queues = IndexMap::new(alloc);
-        match self.put_all_unlined(&mut queues) {
+        match self.put_all_unlinked(&mut queues) {
             Ok(()) => Ok(queues),
             Err(error) => {
                 drop(queues);
@@ -42,21 +42,21 @@ impl DeliveryQueuesDraft {
         }
     }
 
-    fn put_all_unlined(&self, out: &mut IndexMap<u128, PlacedQueue>) -> Result<(), AllocError>
-        ensures { OnOk result ((key : ℕ) → under key out.new.entries ≡ option_or (option_map unlined_of (under key self.now.touched))
-            (option_or (option_map unlined_of (under key self.now.base.queues)) (under key out.old.entries))) }
+    fn put_all_unlinked(&self, out: &mut IndexMap<u128, PlacedQueue>) -> Result<(), AllocError>
+        ensures { OnOk result ((key : ℕ) → under key out.new.entries ≡ option_or (option_map unlinked_of (under key self.now.touched))
+            (option_or (option_map unlinked_of (under key self.now.base.queues)) (under key out.old.entries))) }
     {
-        put_unlined(&self.ground.queues, out)?;
-        put_unlined(&self.touched, out)
+        put_unlinked(&self.ground.queues, out)?;
+        put_unlinked(&self.touched, out)
     }
 }
 
-// These queues are put there without their lines, in memory of their own.
-fn put_unlined(
+// These queues are put there without their links, in memory of their own.
+fn put_unlinked(
     queues: &IndexMap<u128, PlacedQueue>,
     out: &mut IndexMap<u128, PlacedQueue>,
 ) -> Result<(), AllocError>
-    ensures { OnOk result ((key : ℕ) → under key out.new.entries ≡ option_or (option_map unlined_of (under key queues.now.entries))
+    ensures { OnOk result ((key : ℕ) → under key out.new.entries ≡ option_or (option_map unlinked_of (under key queues.now.entries))
         (under key out.old.entries)) }
 {
     // The call says that no key is there twice.
@@ -73,8 +73,8 @@ fn put_one(
     placed: &PlacedQueue,
     out: &mut IndexMap<u128, PlacedQueue>,
 ) -> Result<(), AllocError>
-    ensures { OnOk result ((k : ℕ) → under k out.new.entries ≡ (if nat_eq k key then Some (unlined_of placed.now) else under k out.old.entries)) }
+    ensures { OnOk result ((k : ℕ) → under k out.new.entries ≡ (if nat_eq k key then Some (unlinked_of placed.now) else under k out.old.entries)) }
 {
-    let placed = placed.unlined()?;
+    let placed = placed.unlinked()?;
     put_under(out, key, placed)
 }

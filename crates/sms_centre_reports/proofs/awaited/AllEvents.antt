@@ -8,7 +8,7 @@ use Rattle.sms_base.specs.declared.originator.Originator.{Originator}
 use Rattle.sms_centre_rows.specs.reports.Receipts.{Bindings, Session, session_key}
 use Rattle.sms_centre_rows.specs.reports.Reports.{reports_of}
 use Rattle.sms_centre_rows.specs.reports.Waiting.{Alone}
-use Rattle.sms_centre_rows.specs.waiting.Links.{line_of}
+use Rattle.sms_centre_rows.specs.waiting.Links.{link_of}
 use Rattle.sms_intake.specs.declared.submission.CentreAccount.{CentreAccount}
 use Rattle.sms_centre_reports.specs.open_reports.Entries.{account_in, account_of}
 use Rattle.sms_centre_reports.specs.sessions.Answering.{bindings_answered, bindings_bound, bindings_unbound, reports_answered, reports_bound, reports_unbound}
@@ -113,7 +113,7 @@ awaited_after (DeliverAnswered session id b) c s is k =
     (answered_as id b (row_at session_key session c.sessions) (draft_of c))
     (answers_keep c.rows.messages c.moment b (draft_of c).store.reports s.rows.reports.keys id (row_at session_key session c.sessions) (draft_of c).bindings (λ x e. found_among session_key session x c.sessions e) k)
 awaited_after (Frame handset octets tag) c s is k =
-    left (Frame handset octets tag) c (frame_taken octets (tag_of tag) (line_of handset c.lines) (draft_of c)) s is tt (frame_taken_bindings octets (tag_of tag) (line_of handset c.lines) (draft_of c)) refl k
+    left (Frame handset octets tag) c (frame_taken octets (tag_of tag) (link_of handset c.links) (draft_of c)) s is tt (frame_taken_bindings octets (tag_of tag) (link_of handset c.links) (draft_of c)) refl k
 awaited_after (LinkUp handset) c s is k = left (LinkUp handset) c (raise handset (draft_of c)) s is tt refl refl k
 awaited_after (LinkDown handset) c s is k = left (LinkDown handset) c (lower handset (draft_of c)) s is tt (lower_bindings handset (draft_of c)) refl k
 awaited_after (Ordered order id) c s is k = left (Ordered order id) c (ordered order id (draft_of c)) s is tt (ordered_bindings order id (draft_of c)) refl k

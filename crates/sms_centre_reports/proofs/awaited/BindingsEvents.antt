@@ -21,7 +21,7 @@ use Rattle.smpp_pdu.specs.declared.status.CommandStatus.{CommandStatus}
 use Rattle.sms_centre_rows.specs.declared.messages.message.MessageRow.{MessageRow}
 use Rattle.sms_centre_rows.specs.messages.Messages.{is_pending, message_at}
 use Rattle.sms_centre_rows.specs.declared.waiting.handset_link.HandsetLink.{HandsetLink}
-use Rattle.sms_centre_rows.specs.waiting.Links.{line_of, lowered, put_line, turn_line}
+use Rattle.sms_centre_rows.specs.waiting.Links.{link_of, lowered, put_link, turn_link}
 use Rattle.sms_intake.specs.HandsetIntake.{from_read}
 use Rattle.sms_intake.specs.declared.refusal.SubmitRefusal.{SubmitRefusal}
 use Rattle.sms_intake.specs.declared.refusal.SubmitRefusal.TheVariants.{Duplicate, ReferenceTaken}
@@ -75,7 +75,7 @@ went_up_bindings h tag (Some (Opened unit)) d = unit_received_bindings h tag uni
 went_up_bindings h tag (Some (Ended transfer ending)) d = refl
 
 pub frame_taken_bindings : (octets : List ℕ) (tag : Holder) (l : HandsetLink) (d : Draft) → (frame_taken octets tag l d).bindings ≡ d.bindings
-frame_taken_bindings octets tag l d = went_up_bindings l.handset tag (taken octets l.link).out.up (on_links (turn_line l (taken octets l.link) d.links) d)
+frame_taken_bindings octets tag l d = went_up_bindings l.handset tag (taken octets l.near_end).out.up (on_links (turn_link l (taken octets l.near_end) d.links) d)
 
 lost_bindings : (h : List ℕ) (o : Option Carried) (d : Draft) → (lost h o d).bindings ≡ d.bindings
 lost_bindings h None d = refl
@@ -83,7 +83,7 @@ lost_bindings h (Some t) d = refl
 
 pub lower_bindings : (h : List ℕ) (d : Draft) → (lower h d).bindings ≡ d.bindings
 lower_bindings h d =
-    let l : HandsetLink = line_of h d.links.lines in lost_bindings l.handset l.link.under_way (on_links (put_line (lowered l) d.links) d)
+    let l : HandsetLink = link_of h d.links.all in lost_bindings l.handset l.near_end.under_way (on_links (put_link (lowered l) d.links) d)
 
 -- ---- a tick
 

@@ -18,7 +18,7 @@ pub record DeliveryQueueOf : Type 0 where
   pub given : List ReferenceRow
   -- what waits for it, in the order of messages and numbers
   pub waiting : List QueuedPart
-  pub line : HandsetLink
+  pub link : HandsetLink
 
 -- the reference is given there
 abbrev pub queue_given : HandsetRow → ℕ → ℕ → DeliveryQueueOf → DeliveryQueueOf
@@ -42,7 +42,7 @@ abbrev pub queue_at_once : ℕ → DeliveryQueueOf → DeliveryQueueOf
 queue_at_once now s = record s { waiting = all_at_once now s.waiting }
 
 abbrev pub queue_turned : Turn → DeliveryQueueOf → DeliveryQueueOf
-queue_turned turn s = record s { line = turned turn s.line }
+queue_turned turn s = record s { link = turned turn s.link }
 
 abbrev pub queue_on : HandsetLink → DeliveryQueueOf → DeliveryQueueOf
-queue_on line s = record s { line = line }
+queue_on link s = record s { link = link }

@@ -8,54 +8,54 @@ use Rattle.sms_link.specs.LinkTurn.{Turn, new_link}
 use Rattle.sms_centre_rows.specs.declared.waiting.handset_link.HandsetLink.{HandsetLink}
 use Rattle.sms_centre_rows.specs.declared.waiting.handset_link.Sent.{Sent}
 
--- a handset of which nothing was heard has a new line, which isn't up
-abbrev pub new_line : List ℕ → HandsetLink
-new_line handset = record { handset = handset; is_up = false; is_awaited = false; is_full = false; link = new_link Centre }
+-- a handset of which nothing was heard has a new link, which isn't up
+abbrev pub new_link_to : List ℕ → HandsetLink
+new_link_to handset = record { handset = handset; is_up = false; is_awaited = false; is_full = false; near_end = new_link Centre }
 
-abbrev pub line_at : List ℕ → List HandsetLink → Option HandsetLink
-line_at handset [] = None
-line_at handset (l ∷ ls) = if bytes_eq l.handset handset then Some l else line_at handset ls
+abbrev pub link_at : List ℕ → List HandsetLink → Option HandsetLink
+link_at handset [] = None
+link_at handset (l ∷ ls) = if bytes_eq l.handset handset then Some l else link_at handset ls
 
-abbrev pub or_new_line : List ℕ → Option HandsetLink → HandsetLink
-or_new_line handset None = new_line handset
-or_new_line handset (Some l) = l
+abbrev pub or_new_link_to : List ℕ → Option HandsetLink → HandsetLink
+or_new_link_to handset None = new_link_to handset
+or_new_link_to handset (Some l) = l
 
-abbrev pub line_of : List ℕ → List HandsetLink → HandsetLink
-line_of handset lines = or_new_line handset (line_at handset lines)
+abbrev pub link_of : List ℕ → List HandsetLink → HandsetLink
+link_of handset links = or_new_link_to handset (link_at handset links)
 
 -- the link takes the place of the one that it was, or the last place
-abbrev pub with_line : HandsetLink → List HandsetLink → List HandsetLink
-with_line line [] = line ∷ []
-with_line line (l ∷ ls) = if bytes_eq l.handset line.handset then line ∷ ls else l ∷ with_line line ls
+abbrev pub with_link : HandsetLink → List HandsetLink → List HandsetLink
+with_link link [] = link ∷ []
+with_link link (l ∷ ls) = if bytes_eq l.handset link.handset then link ∷ ls else l ∷ with_link link ls
 
 -- it is up, the handset has memory, and nothing is under way
 abbrev pub is_ready : HandsetLink → Bool
-is_ready line = line.is_up && (not line.is_full && not (is_busy line.link.links))
+is_ready link = link.is_up && (not link.is_full && not (is_busy link.near_end.links))
 
--- ---- what becomes of a line
+-- ---- what becomes of a link
 
 -- it can be reached, and has memory
 abbrev pub raised : HandsetLink → HandsetLink
-raised line = record line { is_up = true; is_awaited = false; is_full = false }
+raised link = record link { is_up = true; is_awaited = false; is_full = false }
 
 -- it can't be reached, and the next connection is a new one
 abbrev pub lowered : HandsetLink → HandsetLink
-lowered line = record line { is_up = false; is_awaited = false; link = new_link Centre }
+lowered link = record link { is_up = false; is_awaited = false; near_end = new_link Centre }
 
 abbrev pub filled : HandsetLink → HandsetLink
-filled line = record line { is_full = true }
+filled link = record link { is_full = true }
 
 abbrev pub emptied : HandsetLink → HandsetLink
-emptied line = record line { is_full = false }
+emptied link = record link { is_full = false }
 
 abbrev pub turned : Turn → HandsetLink → HandsetLink
-turned turn line = record line { link = turn.link }
+turned turn link = record link { near_end = turn.link }
 
 -- ---- frames
 
--- the lines, what was sent on them so far, and whose TPDUs were read from the store for it, by their keys
+-- the links, what was sent on them so far, and whose TPDUs were read from the store for it, by their keys
 pub record Links : Type 0 where
-  pub lines : List HandsetLink
+  pub all : List HandsetLink
   pub frames : List Sent
   pub read : List ℕ
 
@@ -63,13 +63,13 @@ abbrev pub to_handset : List ℕ → List Outgoing → List Sent
 to_handset handset [] = []
 to_handset handset (f ∷ fs) = record { handset = handset; frame = f } ∷ to_handset handset fs
 
--- the line as it is now
-abbrev pub put_line : HandsetLink → Links → Links
-put_line line links = record links { lines = with_line line links.lines }
+-- the link as it is now
+abbrev pub put_link : HandsetLink → Links → Links
+put_link link links = record links { all = with_link link links.all }
 
--- the link of the line did a turn
-abbrev pub turn_line : HandsetLink → Turn → Links → Links
-turn_line line turn links = record links { lines = with_line (turned turn line) links.lines; frames = links.frames ++ to_handset line.handset turn.out.frames }
+-- the near end of the link did a turn
+abbrev pub turn_link : HandsetLink → Turn → Links → Links
+turn_link link turn links = record links { all = with_link (turned turn link) links.all; frames = links.frames ++ to_handset link.handset turn.out.frames }
 
 -- the TPDU of that key is read from the store
 abbrev pub read_for : ℕ → Links → Links

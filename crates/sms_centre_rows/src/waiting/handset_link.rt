@@ -1,6 +1,6 @@
-//! The line to a handset.
+//! The link to a handset.
 ghost use Rattle.std.specs.Prelude.{◌≡◌, IfOk};
-ghost use Rattle.sms_centre_rows.specs.waiting.Links.{is_ready, new_line};
+ghost use Rattle.sms_centre_rows.specs.waiting.Links.{is_ready, new_link_to};
 
 use sms_base::Msisdn;
 use sms_link::{Link, Outgoing, Side};
@@ -13,7 +13,7 @@ pub struct Sent {
     pub frame: Outgoing,
 }
 
-/// The line to a handset: the centre's end of its link, and whether the handset can be reached.
+/// The link to a handset: the near end, which is the centre's, and whether the handset can be reached.
 #[derive(Drop)]
 pub struct HandsetLink {
     pub handset: Msisdn,
@@ -22,20 +22,20 @@ pub struct HandsetLink {
     pub is_awaited: bool,
     /// The handset said that it has no memory (3GPP TS 23.040 9.2.3.22, RP cause 22).
     pub is_full: bool,
-    pub link: Link,
+    pub near_end: Link,
 }
 
 impl HandsetLink {
-    /// The line to a handset of which nothing was heard.
+    /// The link to a handset of which nothing was heard.
     pub fn new(alloc: Global, handset: Msisdn) -> HandsetLink
-        ensures { result ≡ new_line handset }
+        ensures { result ≡ new_link_to handset }
     {
         HandsetLink {
             handset,
             is_up: false,
             is_awaited: false,
             is_full: false,
-            link: Link::new(alloc, Side::Centre),
+            near_end: Link::new(alloc, Side::Centre),
         }
     }
 
@@ -43,20 +43,20 @@ impl HandsetLink {
     pub fn is_ready(&self) -> bool
         ensures { result ≡ is_ready self.now }
     {
-        self.is_up && !self.is_full && !self.link.is_busy()
+        self.is_up && !self.is_full && !self.near_end.is_busy()
     }
 
     /// A copy of the link, in memory of its own.
     pub fn copy(&self) -> Result<HandsetLink, AllocError>
-        ensures { IfOk result (λ line. line ≡ self.now) }
+        ensures { IfOk result (λ link. link ≡ self.now) }
     {
-        let link = self.link.copy()?;
+        let near_end = self.near_end.copy()?;
         Ok(HandsetLink {
             handset: self.handset,
             is_up: self.is_up,
             is_awaited: self.is_awaited,
             is_full: self.is_full,
-            link,
+            near_end,
         })
     }
 }

@@ -4,7 +4,7 @@ ghost use Rattle.std.specs.Prelude.{Option, Some, ◌≡◌, ◌<◌, ◌∷◌,
 ghost use Rattle.sms_base.specs.Among.{Among};
 ghost use Rattle.sms_rows.specs.table.Table.{put, without};
 ghost use Rattle.sms_centre_rows.specs.waiting.Keys.{handset_key, queued_key, reference_key};
-ghost use Rattle.sms_centre_rows.specs.waiting.Links.{with_line};
+ghost use Rattle.sms_centre_rows.specs.waiting.Links.{with_link};
 ghost use Rattle.sms_centre_rows.specs.waiting.References.{given_row, handset_of, mentioned, next_reference};
 ghost use Rattle.sms_centre_rows.specs.waiting.DeliveryQueueRows.{Represents, row_for};
 ghost use Rattle.sms_centre_rows.specs.waiting.DeliveryQueues.{DeliveryQueueOf, queue_given, queue_on};
@@ -18,26 +18,26 @@ ghost use Rattle.sms_centre_rows.specs.declared.waiting.reference.ReferenceRow.{
 
 /// The next reference of a handset over all rows is that of its queue.
 pub fn a_queue_knows_the_next_reference()
-    ensures { (number : List ℕ) (handsets : List HandsetRow) (references : List ReferenceRow) (waiting : List QueuedPart) (lines : List HandsetLink)
+    ensures { (number : List ℕ) (handsets : List HandsetRow) (references : List ReferenceRow) (waiting : List QueuedPart) (links : List HandsetLink)
         (s : DeliveryQueueOf) (now : ℕ)
-        → SoundAllocations handsets references → Represents number handsets references waiting lines s
+        → SoundAllocations handsets references → Represents number handsets references waiting links s
         → next_reference (handset_of number handsets) waiting references now ≡ next_reference (row_for number handsets s) s.waiting s.given now }
 {}
 
 /// A reference that is given is given on the queue of its handset, and all other queues stay as they are.
 pub fn an_allocation_stays_on_its_queue()
-    ensures own { (number : List ℕ) (handsets : List HandsetRow) (references : List ReferenceRow) (waiting : List QueuedPart) (lines : List HandsetLink)
+    ensures own { (number : List ℕ) (handsets : List HandsetRow) (references : List ReferenceRow) (waiting : List QueuedPart) (links : List HandsetLink)
         (s : DeliveryQueueOf) (reference now : ℕ)
-        → SoundAllocations handsets references → reference < 256 → Represents number handsets references waiting lines s
+        → SoundAllocations handsets references → reference < 256 → Represents number handsets references waiting links s
         → Represents number (put handset_key (mentioned (handset_of number handsets) reference) handsets)
         (put reference_key (given_row (handset_of number handsets) reference now) references)
-        waiting lines (queue_given (row_for number handsets s) reference now s) }
+        waiting links (queue_given (row_for number handsets s) reference now s) }
     ensures others { (number other : List ℕ) (handsets : List HandsetRow) (references : List ReferenceRow) (waiting : List QueuedPart)
-        (lines : List HandsetLink) (s : DeliveryQueueOf) (reference now : ℕ)
-        → SoundAllocations handsets references → reference < 256 → ¬ (number ≡ other) → Represents other handsets references waiting lines s
+        (links : List HandsetLink) (s : DeliveryQueueOf) (reference now : ℕ)
+        → SoundAllocations handsets references → reference < 256 → ¬ (number ≡ other) → Represents other handsets references waiting links s
         → Represents other (put handset_key (mentioned (handset_of number handsets) reference) handsets)
         (put reference_key (given_row (handset_of number handsets) reference now) references)
-        waiting lines s }
+        waiting links s }
 {}
 
 /// A giving leaves sound handsets and references sound.
@@ -48,16 +48,16 @@ pub fn an_allocation_is_sound()
         (put reference_key (given_row (handset_of number handsets) reference now) references) }
 {}
 
-/// A line that changes changes on the queue of its handset, and all other queues stay as they are.
+/// A link that changes changes on the queue of its handset, and all other queues stay as they are.
 pub fn a_link_stays_on_its_queue()
-    ensures own { (handsets : List HandsetRow) (references : List ReferenceRow) (waiting : List QueuedPart) (lines : List HandsetLink) (line : HandsetLink)
+    ensures own { (handsets : List HandsetRow) (references : List ReferenceRow) (waiting : List QueuedPart) (links : List HandsetLink) (link : HandsetLink)
         (s : DeliveryQueueOf)
-        → Represents line.handset handsets references waiting lines s → Represents line.handset handsets references waiting (with_line line lines)
-        (queue_on line s) }
-    ensures others { (other : List ℕ) (handsets : List HandsetRow) (references : List ReferenceRow) (waiting : List QueuedPart) (lines : List HandsetLink)
-        (line : HandsetLink) (s : DeliveryQueueOf)
-        → ¬ (line.handset ≡ other) → Represents other handsets references waiting lines s → Represents other handsets references waiting
-        (with_line line lines) s }
+        → Represents link.handset handsets references waiting links s → Represents link.handset handsets references waiting (with_link link links)
+        (queue_on link s) }
+    ensures others { (other : List ℕ) (handsets : List HandsetRow) (references : List ReferenceRow) (waiting : List QueuedPart) (links : List HandsetLink)
+        (link : HandsetLink) (s : DeliveryQueueOf)
+        → ¬ (link.handset ≡ other) → Represents other handsets references waiting links s → Represents other handsets references waiting
+        (with_link link links) s }
 {}
 
 /// What waits for a handset holds references that were given there, all different, whatever becomes of it. One more may

@@ -45,7 +45,7 @@ followed goes small large a = record {
   draft = ap (λ (d : Draft). follow d) a.0 ∙ follow_same goes large a.1;
   stays = a.1;
   core = ap (λ (d : Draft). core_of (follow d)) a.0 ∙ ap (λ (d : Draft). core_of d) (follow_same goes large a.1)
-      ∙ ap (λ (r : Rows). record { rows = r; moment = large.store.moment; lines = (follow large).links.lines; sessions = (follow large).bindings.sessions }) (rows_alike goes large.store a.1);
+      ∙ ap (λ (r : Rows). record { rows = r; moment = large.store.moment; links = (follow large).links.all; sessions = (follow large).bindings.sessions }) (rows_alike goes large.store a.1);
 }
 
 -- ---- a receipt is answered

@@ -16,7 +16,7 @@ use Rattle.sms_centre_rows.specs.messages.SplitReferences.{is_among}
 use Rattle.sms_centre_rows.specs.declared.reports.report.ReportRow.{ReportRow}
 use Rattle.sms_centre_rows.specs.declared.waiting.reference.ReferenceRow.{ReferenceRow}
 use Rattle.sms_centre_spec.specs.declared.rows.Rows.{Rows}
-use Rattle.sms_centre_spec.specs.CentreEvent.{after_messages, after_references, after_reports, lines_awaited, moment_of, recovered}
+use Rattle.sms_centre_spec.specs.CentreEvent.{after_messages, after_references, after_reports, links_awaited, moment_of, recovered}
 use Rattle.sms_link.specs.declared.ending.Side.TheVariants.{Centre}
 use Rattle.sms_link.specs.LinkTurn.{new_link}
 use Rattle.sms_centre_rows.specs.declared.waiting.handset_link.HandsetLink.{HandsetLink}
@@ -100,9 +100,9 @@ begins goes c s can away = record {
     rows = without_sound goes c.rows s.rows can.may;
     now = s.now;
     moment = let m = never_later goes c.rows in let n : moment_of c.rows ≤ c.moment = s.moment in omega (arith, m, n);
-    each_line = λ l a.
-        let i = s.each_line l a in
-        record { handset = i.handset; side = i.side; under_way = way_without goes c.rows s.rows.messages.part_keys l.handset l.link.under_way (away l a) i.under_way; answered = i.answered };
+    each_link = λ l a.
+        let i = s.each_link l a in
+        record { handset = i.handset; side = i.side; under_way = way_without goes c.rows s.rows.messages.part_keys l.handset l.near_end.under_way (away l a) i.under_way; answered = i.answered };
     apart = s.apart;
     session_keys = s.session_keys;
     each_session = λ x a. record {
@@ -117,16 +117,16 @@ begins goes c s can away = record {
 
 -- ---- a recovery: nothing is under way
 
-pub awaited_away : (goes : ℕ → Bool) (rows : Rows) (handsets : List (List ℕ)) (l : HandsetLink) → Among l (lines_awaited handsets) → IsAway goes l.link.under_way
+pub awaited_away : (goes : ℕ → Bool) (rows : Rows) (handsets : List (List ℕ)) (l : HandsetLink) → Among l (links_awaited handsets) → IsAway goes l.near_end.under_way
 awaited_away goes rows [] l a = absurd a
 awaited_away goes rows (n ∷ ns) l a = ⊎_elim
-    (λ (e : l ≡ record { handset = n; is_up = false; is_awaited = true; is_full = false; link = new_link Centre }). subst (λ (x : HandsetLink). IsAway goes x.link.under_way) (sym e) tt)
-    (λ (b : Among l (lines_awaited ns)). awaited_away goes rows ns l b)
+    (λ (e : l ≡ record { handset = n; is_up = false; is_awaited = true; is_full = false; near_end = new_link Centre }). subst (λ (x : HandsetLink). IsAway goes x.near_end.under_way) (sym e) tt)
+    (λ (b : Among l (links_awaited ns)). awaited_away goes rows ns l b)
     a
 
 pub recovers : (goes : ℕ → Bool) (rows : Rows) (handsets : List (List ℕ)) (sessions : List Session) → IsSoundCore (recovered rows handsets sessions) → AreNoLater goes rows
     → CanForget goes (recovered rows handsets sessions) → Forgot goes (recovered (rows_without goes rows) handsets sessions) (recovered rows handsets sessions)
 recovers goes rows handsets sessions s no_later can =
     let c : Core = recovered rows handsets sessions in
-    subst (λ (n : ℕ). Forgot goes (record { rows = rows_without goes rows; moment = n; lines = lines_awaited handsets; sessions = sessions }) c) (sym (moment_same goes rows can.may no_later))
+    subst (λ (n : ℕ). Forgot goes (record { rows = rows_without goes rows; moment = n; links = links_awaited handsets; sessions = sessions }) c) (sym (moment_same goes rows can.may no_later))
     (begins goes c s can (awaited_away goes rows handsets))

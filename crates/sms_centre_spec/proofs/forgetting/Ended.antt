@@ -34,7 +34,7 @@ use Rattle.sms_centre_spec.specs.Draft.{Draft, Store, handsets_in, messages_in, 
 use Rattle.sms_centre_spec.specs.Ends.{end, is_wished, make_report, report, report_to, status_given}
 use Rattle.sms_centre_spec.specs.Finals.{final_of}
 use Rattle.sms_centre_spec.specs.Submitting.{reference_for}
-use Rattle.sms_centre_spec.specs.Transfers.{complete, conclude, ended_with, is_open_part_at, is_open_status_at, line_ended, part_ended, part_ended_at, part_ended_of, report_ended, report_ended_at, verdict_of, verdict_on}
+use Rattle.sms_centre_spec.specs.Transfers.{complete, conclude, ended_with, is_open_part_at, is_open_status_at, link_ended, part_ended, part_ended_at, part_ended_of, report_ended, report_ended_at, verdict_of, verdict_on}
 use Rattle.sms_centre_spec.specs.forgetting.Forgetting.{kept, part_id, report_id}
 use Rattle.sms_centre_spec.specs.forgetting.Forgot.{Stays, draft_without, store_without}
 use Rattle.sms_centre_spec.proofs.forgetting.Answers.{Alike}
@@ -126,12 +126,12 @@ module _ (goes : ℕ → Bool) where
   abbrev part_draft : List ℕ → Ending → Draft → Option PartRow → Bool → Draft
   part_draft handset e d o b =
       let v : Verdict = if b then verdict_of e else Late in
-      record { store = part_ended_at v o d.store; links = line_ended v handset d.links; bindings = d.bindings; answer = d.answer }
+      record { store = part_ended_at v o d.store; links = link_ended v handset d.links; bindings = d.bindings; answer = d.answer }
 
   abbrev report_draft : List ℕ → Ending → Draft → Option ReportRow → Bool → Draft
   report_draft handset e d o b =
       let v : Verdict = if b then verdict_of e else Late in
-      record { store = report_ended_at v o d.store; links = line_ended v handset d.links; bindings = d.bindings; answer = d.answer }
+      record { store = report_ended_at v o d.store; links = link_ended v handset d.links; bindings = d.bindings; answer = d.answer }
 
   late_part : (p : PartRow) (o : Option MessageRow) (s : Store) → part_ended_of Late p o s ≡ s
   late_part p None s = refl
@@ -156,9 +156,9 @@ module _ (goes : ℕ → Bool) where
       let o : Option MessageRow = message_at p.id (messages_in s) in
       let v : Verdict = if is_open_part p o then verdict_of e else Late in
       let ended : Pair goes (part_ended_of v p o z) (part_ended_of v p o s) = of_pair v p o s k refl g in
-      let first : part_draft handset e (draft_without goes d) (Some p) (is_open_part p (message_at p.id (messages_in z))) ≡ record { store = part_ended_of v p o z; links = line_ended v handset d.links; bindings = d.bindings; answer = d.answer } =
-      ap (λ (x : Option MessageRow). record { store = part_ended_of (if is_open_part p x then verdict_of e else Late) p x z; links = line_ended (if is_open_part p x then verdict_of e else Late) handset d.links; bindings = d.bindings; answer = d.answer }) (message_look goes p.id s k g) in
-      (first ∙ ap (λ (x : Store). record { store = x; links = line_ended v handset d.links; bindings = d.bindings; answer = d.answer }) ended.0, ended.1)
+      let first : part_draft handset e (draft_without goes d) (Some p) (is_open_part p (message_at p.id (messages_in z))) ≡ record { store = part_ended_of v p o z; links = link_ended v handset d.links; bindings = d.bindings; answer = d.answer } =
+      ap (λ (x : Option MessageRow). record { store = part_ended_of (if is_open_part p x then verdict_of e else Late) p x z; links = link_ended (if is_open_part p x then verdict_of e else Late) handset d.links; bindings = d.bindings; answer = d.answer }) (message_look goes p.id s k g) in
+      (first ∙ ap (λ (x : Store). record { store = x; links = link_ended v handset d.links; bindings = d.bindings; answer = d.answer }) ended.0, ended.1)
 
   part_found : (handset : List ℕ) (e : Ending) (key : ℕ) (d : Draft) → Stays goes d.store → (o : Option PartRow) → row_at part_key key (parts_in d.store) ≡ o
       → Alike goes (part_draft handset e (draft_without goes d) (row_at part_key key (parts_in (store_without goes d.store))) (is_open_part_at (row_at part_key key (parts_in (store_without goes d.store))) (store_without goes d.store))) (part_draft handset e d o (is_open_part_at o d.store))
@@ -196,7 +196,7 @@ module _ (goes : ℕ → Bool) where
       let f = report_found id r (reports_in d.store) q in
       let v : Verdict = if is_open_status r then verdict_of e else Late in
       let ended : Pair goes (report_ended v r (store_without goes d.store)) (report_ended v r d.store) = report_ended_pair v r d.store k f.0 (ap goes f.1 ∙ g) in
-      (ap (λ (x : Store). record { store = x; links = line_ended v handset d.links; bindings = d.bindings; answer = d.answer }) ended.0, ended.1)
+      (ap (λ (x : Store). record { store = x; links = link_ended v handset d.links; bindings = d.bindings; answer = d.answer }) ended.0, ended.1)
 
   gone_report : (handset : List ℕ) (e : Ending) (id : ℕ) (d : Draft) → Stays goes d.store → goes id ≡ true → (o : Option ReportRow) → report_of id (reports_in d.store) ≡ o → report_draft handset e d o (is_open_status_at o) ≡ d
   gone_report handset e id d k t None q = refl

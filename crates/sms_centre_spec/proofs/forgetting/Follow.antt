@@ -24,7 +24,7 @@ use Rattle.sms_centre_rows.specs.declared.waiting.handset.HandsetRow.{HandsetRow
 use Rattle.sms_centre_rows.specs.declared.waiting.handset_link.HandsetLink.{HandsetLink}
 use Rattle.sms_centre_rows.specs.declared.waiting.queued_part.QueuedPart.{QueuedPart}
 use Rattle.sms_centre_rows.specs.waiting.Keys.{queued_key}
-use Rattle.sms_centre_rows.specs.waiting.Links.{Links, is_ready, line_of, turn_line}
+use Rattle.sms_centre_rows.specs.waiting.Links.{Links, is_ready, link_of, turn_link}
 use Rattle.sms_centre_rows.specs.waiting.Waiting.{if_due, is_due, next, precedes, preceding, waits_beside}
 use Rattle.sms_centre_spec.specs.CentreEvent.{follow}
 use Rattle.sms_centre_spec.specs.Draft.{Draft, Store, handsets_in, messages_in, parts_in, priorities_in, reports_in, waiting_in}
@@ -163,26 +163,26 @@ module _ (goes : ℕ → Bool) where
 
   -- ---- offers
 
-  queued_same : (line : HandsetLink) (o : Option QueuedPart) (s : Store) (links : Links) → Stays goes s → next s.moment (waiting_in line.handset s) ≡ o
-      → offer_queued line (waiting_in line.handset s) o (store_without goes s) links ≡ offer_queued line (waiting_in line.handset s) o s links
-  queued_same line None s links k e = refl
-  queued_same line (Some l) s links k e =
-      let w : List QueuedPart = waiting_in line.handset s in
-      ap (λ (t : List ℕ). turn_line line (begun s.moment l.reference (holder_of l) (data_down l.reference (relay_address s.setup.centre) (with_more_messages (waits_beside s.moment l w) t)) line.link) (read_of l s links))
-      (tpdu_same line.handset l s k (next_among s.moment w l e))
+  queued_same : (link : HandsetLink) (o : Option QueuedPart) (s : Store) (links : Links) → Stays goes s → next s.moment (waiting_in link.handset s) ≡ o
+      → offer_queued link (waiting_in link.handset s) o (store_without goes s) links ≡ offer_queued link (waiting_in link.handset s) o s links
+  queued_same link None s links k e = refl
+  queued_same link (Some l) s links k e =
+      let w : List QueuedPart = waiting_in link.handset s in
+      ap (λ (t : List ℕ). turn_link link (begun s.moment l.reference (holder_of l) (data_down l.reference (relay_address s.setup.centre) (with_more_messages (waits_beside s.moment l w) t)) link.near_end) (read_of l s links))
+      (tpdu_same link.handset l s k (next_among s.moment w l e))
 
-  offer_on_same : (line : HandsetLink) (s : Store) (links : Links) → Stays goes s → offer_on line (store_without goes s) links ≡ offer_on line s links
-  offer_on_same line s links k =
+  offer_on_same : (link : HandsetLink) (s : Store) (links : Links) → Stays goes s → offer_on link (store_without goes s) links ≡ offer_on link s links
+  offer_on_same link s links k =
       let z : Store = store_without goes s in
-      let w : List QueuedPart = waiting_in line.handset s in
-      ap (λ (x : Links). if is_ready line then x else links)
-      (ap (λ (ls : List QueuedPart). offer_queued line ls (next s.moment ls) z links) (waiting_look goes line.handset s k)
-      ∙ queued_same line (next s.moment w) s links k refl)
+      let w : List QueuedPart = waiting_in link.handset s in
+      ap (λ (x : Links). if is_ready link then x else links)
+      (ap (λ (ls : List QueuedPart). offer_queued link ls (next s.moment ls) z links) (waiting_look goes link.handset s k)
+      ∙ queued_same link (next s.moment w) s links k refl)
 
   offer_all_same : (hs : List HandsetRow) (s : Store) (links : Links) → Stays goes s → offer_all hs (store_without goes s) links ≡ offer_all hs s links
   offer_all_same [] s links k = refl
   offer_all_same (h ∷ hs) s links k =
-      ap (λ (x : Links). offer_all hs (store_without goes s) x) (offer_on_same (line_of h.number links.lines) s links k)
+      ap (λ (x : Links). offer_all hs (store_without goes s) x) (offer_on_same (link_of h.number links.all) s links k)
       ∙ offer_all_same hs s (offer_to h.number s links) k
 
   pub follow_same : (d : Draft) → Stays goes d.store → follow (draft_without goes d) ≡ draft_without goes (follow d)

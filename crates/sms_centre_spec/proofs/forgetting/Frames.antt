@@ -20,7 +20,7 @@ use Rattle.sms_tpdu.specs.TpduReading.{up_at as tpdu_up_at}
 use Rattle.sms_centre_rows.specs.declared.messages.message.MessageRow.{MessageRow}
 use Rattle.sms_centre_rows.specs.messages.Messages.{is_pending, message_key}
 use Rattle.sms_centre_rows.specs.declared.waiting.handset_link.HandsetLink.{HandsetLink}
-use Rattle.sms_centre_rows.specs.waiting.Links.{line_of, lowered, put_line, turn_line}
+use Rattle.sms_centre_rows.specs.waiting.Links.{link_of, lowered, put_link, turn_link}
 use Rattle.sms_intake.specs.declared.refusal.SubmitRefusal.{SubmitRefusal}
 use Rattle.sms_intake.specs.declared.refusal.SubmitRefusal.TheVariants.{Duplicate, ReferenceTaken}
 use Rattle.sms_intake.specs.declared.submission.Submission.{Submission}
@@ -28,7 +28,7 @@ use Rattle.sms_intake.specs.HandsetIntake.{from_read}
 use Rattle.sms_centre_spec.specs.declared.event.CentreEvent.TheVariants.{Frame, LinkDown, LinkUp}
 use Rattle.sms_centre_spec.specs.CentreEvent.{frame_taken, happened, lost, lower, raise, tag_of, went_up}
 use Rattle.sms_centre_spec.specs.Draft.{Core, Draft, Store, draft_of, messages_in, on_links}
-use Rattle.sms_centre_spec.specs.Receiving.{confirm, due_now, empty_line, has_memory, is_double_of, is_duplicate, is_of_reference, is_pending_double, refuse, reply, submit_accepted, submit_received, unit_received}
+use Rattle.sms_centre_spec.specs.Receiving.{confirm, due_now, empty_link, has_memory, is_double_of, is_duplicate, is_of_reference, is_pending_double, refuse, reply, submit_accepted, submit_received, unit_received}
 use Rattle.sms_centre_spec.specs.SoundRows.{IsSound}
 use Rattle.sms_centre_spec.specs.Submitting.{accept, is_reference_taken, own_reference}
 use Rattle.sms_centre_spec.specs.forgetting.Forgetting.{kept}
@@ -59,12 +59,12 @@ module _ (goes : ℕ → Bool) where
   lost_alike h (Some t) d k = conclude_alike goes h t Lost d k
 
   lower_alike : (h : List ℕ) (d : Draft) → Stays goes d.store → Alike goes (lower h (draft_without goes d)) (lower h d)
-  lower_alike h d k = let line : HandsetLink = line_of h d.links.lines in lost_alike line.handset line.link.under_way (on_links (put_line (lowered line) d.links) d) k
+  lower_alike h d k = let link : HandsetLink = link_of h d.links.all in lost_alike link.handset link.near_end.under_way (on_links (put_link (lowered link) d.links) d) k
 
   memory_alike : (h : List ℕ) (d : Draft) → Stays goes d.store → Alike goes (has_memory h (draft_without goes d)) (has_memory h d)
   memory_alike h d k =
       let p : Pair goes (due_now h (store_without goes d.store)) (due_now h d.store) = due_pair goes h d.store k in
-      (ap (λ (e : Store). record { store = e; links = empty_line h d.links; bindings = d.bindings; answer = d.answer }) p.0, p.1)
+      (ap (λ (e : Store). record { store = e; links = empty_link h d.links; bindings = d.bindings; answer = d.answer }) p.0, p.1)
 
   taken_alike : (h : List ℕ) (r : ℕ) (tag : Holder) (x y : Option Store) (d : Draft) → Stays goes d.store → Both goes x y → Alike goes (submit_accepted h r tag x (draft_without goes d)) (submit_accepted h r tag y d)
   taken_alike h r tag None None d k g = (refl, k)
@@ -107,11 +107,11 @@ module _ (goes : ℕ → Bool) where
   pub frame_same : (h octets : List ℕ) (tag : Option Holder) (c : Core) → IsSound c.rows → CanForget goes c
       → Same goes (happened (Frame h octets tag) (core_without goes c)) (happened (Frame h octets tag) c)
   frame_same h octets tag c s can =
-      let line : HandsetLink = line_of h c.lines in
-      let turn : Turn = taken octets line.link in
+      let link : HandsetLink = link_of h c.links in
+      let turn : Turn = taken octets link.near_end in
       let d : Draft = draft_of c in
-      followed goes (frame_taken octets (tag_of tag) line (draft_without goes d)) (frame_taken octets (tag_of tag) line d)
-      (went_alike line.handset (tag_of tag) turn.out.up (on_links (turn_line line turn d.links) d) (base_stays goes c s can.may) (base_nexts goes c s can))
+      followed goes (frame_taken octets (tag_of tag) link (draft_without goes d)) (frame_taken octets (tag_of tag) link d)
+      (went_alike link.handset (tag_of tag) turn.out.up (on_links (turn_link link turn d.links) d) (base_stays goes c s can.may) (base_nexts goes c s can))
 
   pub up_same : (h : List ℕ) (c : Core) → IsSound c.rows → CanForget goes c → Same goes (happened (LinkUp h) (core_without goes c)) (happened (LinkUp h) c)
   up_same h c s can = let d : Draft = draft_of c in followed goes (raise h (draft_without goes d)) (raise h d) (raise_alike goes h d (base_stays goes c s can.may))

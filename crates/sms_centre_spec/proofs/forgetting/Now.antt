@@ -28,16 +28,16 @@ unanswered_there id s (x ∷ xs) a e = ⊎_elim
     (λ (b : Among s xs). or_right (is_among id x.unanswered) (is_unanswered id xs) (unanswered_there id s xs b e))
     a
 
-pub on_way_there : (id : ℕ) (l : HandsetLink) (ls : List HandsetLink) → Among l ls → is_carried id l.link.under_way ≡ true → is_on_way id ls ≡ true
+pub on_way_there : (id : ℕ) (l : HandsetLink) (ls : List HandsetLink) → Among l ls → is_carried id l.near_end.under_way ≡ true → is_on_way id ls ≡ true
 on_way_there id l [] a e = absurd a
 on_way_there id l (x ∷ xs) a e = ⊎_elim
-    (λ (q : l ≡ x). ap (λ (b : Bool). b || is_on_way id xs) (ap (λ (y : HandsetLink). is_carried id y.link.under_way) (sym q) ∙ e))
-    (λ (b : Among l xs). or_right (is_carried id x.link.under_way) (is_on_way id xs) (on_way_there id l xs b e))
+    (λ (q : l ≡ x). ap (λ (b : Bool). b || is_on_way id xs) (ap (λ (y : HandsetLink). is_carried id y.near_end.under_way) (sym q) ∙ e))
+    (λ (b : Among l xs). or_right (is_carried id x.near_end.under_way) (is_on_way id xs) (on_way_there id l xs b e))
     a
 
 record Clear (id : ℕ) (c : Core) : Type 0 where
   answered : is_unanswered id c.sessions ≡ false
-  away : is_on_way id c.lines ≡ false
+  away : is_on_way id c.links ≡ false
 
 module _ (before from most : ℕ) (c : Core) (s : IsSoundCore c) where
   abbrev goes : ℕ → Bool
@@ -47,15 +47,15 @@ module _ (before from most : ℕ) (c : Core) (s : IsSoundCore c) where
   clear id g =
       let f = gone_from (may_go_now before c) from most c.rows.messages id g in
       let m : MessageRow = f.row in
-      let a = and_parts (may_go before c.rows m) (not (is_unanswered m.id c.sessions) && not (is_on_way m.id c.lines)) f.passes in
-      let b = and_parts (not (is_unanswered m.id c.sessions)) (not (is_on_way m.id c.lines)) a.1 in
+      let a = and_parts (may_go before c.rows m) (not (is_unanswered m.id c.sessions) && not (is_on_way m.id c.links)) f.passes in
+      let b = and_parts (not (is_unanswered m.id c.sessions)) (not (is_on_way m.id c.links)) a.1 in
       record {
         answered = ap (λ (n : ℕ). is_unanswered n c.sessions) (sym f.own) ∙ not-true (is_unanswered m.id c.sessions) b.0;
-        away = ap (λ (n : ℕ). is_on_way n c.lines) (sym f.own) ∙ not-true (is_on_way m.id c.lines) b.1;
+        away = ap (λ (n : ℕ). is_on_way n c.links) (sym f.own) ∙ not-true (is_on_way m.id c.links) b.1;
       }
 
   ended : (m : MessageRow) → may_go_now before c m ≡ true → may_go before c.rows m ≡ true
-  ended m t = (and_parts (may_go before c.rows m) (not (is_unanswered m.id c.sessions) && not (is_on_way m.id c.lines)) t).0
+  ended m t = (and_parts (may_go before c.rows m) (not (is_unanswered m.id c.sessions) && not (is_on_way m.id c.links)) t).0
 
   pub can_now : CanForget goes c
   can_now = record {
@@ -68,9 +68,9 @@ module _ (before from most : ℕ) (c : Core) (s : IsSoundCore c) where
   }
 
   -- what is carried is of a message that stays
-  stays : (l : HandsetLink) → Among l c.lines → (id : ℕ) → is_carried id l.link.under_way ≡ true → goes id ≡ false
+  stays : (l : HandsetLink) → Among l c.links → (id : ℕ) → is_carried id l.near_end.under_way ≡ true → goes id ≡ false
   stays l a id e = ⊎_elim
-      (λ (t : goes id ≡ true). absurd (not_both (is_on_way id c.lines) (on_way_there id l c.lines a e) (clear id t).away))
+      (λ (t : goes id ≡ true). absurd (not_both (is_on_way id c.links) (on_way_there id l c.links a e) (clear id t).away))
       (λ (t : goes id ≡ false). t)
       (cases_Bool (goes id))
 
@@ -85,7 +85,7 @@ module _ (before from most : ℕ) (c : Core) (s : IsSoundCore c) where
   way (Some t) f = tag_away t.tag f
 
   pub away_now : AreAway goes c
-  away_now l a = way l.link.under_way (stays l a)
+  away_now l a = way l.near_end.under_way (stays l a)
 
   pub forgot_now : Forgot goes (core_of (forget before from most c)) c
   forgot_now = subst (λ (x : Core). Forgot goes x c) (sym (forget_leaves before from most c s.rows)) (begins goes c s can_now away_now)

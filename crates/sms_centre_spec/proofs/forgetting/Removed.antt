@@ -415,9 +415,9 @@ forget_leaves before from most c s =
     let bars : bars_of (put_bars claims d.bars) ≡ bars_beside goes c.rows =
     ap (λ (t : Since BarRow). bars_of (put_bars claims t)) (bars_kept ids start) ∙ all_put claims (untouched c.rows.bars)
     ∙ ap (λ (l : List Claim). with_bars l c.rows.bars) (from_that (may_go_now before c) from most c.rows.messages c.rows.parts s.messages.message_keys) in
-    ap (λ (l : List BarRow). record { rows = record (rows_of d) { bars = l }; moment = d.moment; lines = c.lines; sessions = c.sessions }) bars
-    ∙ ap (λ (r : Rows). record { rows = record r { bars = bars_beside goes c.rows }; moment = d.moment; lines = c.lines; sessions = c.sessions }) (all_left ids start (sure_rows c.rows s))
-    ∙ ap (λ (n : ℕ). record { rows = rows_without goes c.rows; moment = n; lines = c.lines; sessions = c.sessions }) (moment_kept ids start)
+    ap (λ (l : List BarRow). record { rows = record (rows_of d) { bars = l }; moment = d.moment; links = c.links; sessions = c.sessions }) bars
+    ∙ ap (λ (r : Rows). record { rows = record r { bars = bars_beside goes c.rows }; moment = d.moment; links = c.links; sessions = c.sessions }) (all_left ids start (sure_rows c.rows s))
+    ∙ ap (λ (n : ℕ). record { rows = rows_without goes c.rows; moment = n; links = c.links; sessions = c.sessions }) (moment_kept ids start)
 
 pub forget_commits : (before from most : ℕ) (c : Core) → adopted (outcome_of (forget before from most c)) c ≡ core_of (forget before from most c)
 forget_commits before from most c =
@@ -426,7 +426,7 @@ forget_commits before from most c =
     let d : Store = messages_gone ids (store_of c.rows c.moment) in
     let base : base_of s ≡ c.rows =
     ap (λ (l : List BarRow). record (base_of d) { bars = l }) (puts_base (claims_by ids c.rows.messages c.rows.parts) d.bars) ∙ base_kept ids (store_of c.rows c.moment) in
-    ap (λ (r : Rows). record { rows = r; moment = s.moment; lines = c.lines; sessions = c.sessions }) (ap (λ (r : Rows). rows_after (changes_in s) r) (sym base) ∙ store_commits s)
+    ap (λ (r : Rows). record { rows = r; moment = s.moment; links = c.links; sessions = c.sessions }) (ap (λ (r : Rows). rows_after (changes_in s) r) (sym base) ∙ store_commits s)
 
 pub forget_bars : (before from most : ℕ) (c : Core) → (changes_in (forget before from most c).store).bars
     ≡ changes_of (put_bars (claims_by (going_now before from most c) c.rows.messages c.rows.parts) (untouched c.rows.bars)).news

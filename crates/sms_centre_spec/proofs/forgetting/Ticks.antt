@@ -20,11 +20,11 @@ use Rattle.sms_centre_rows.specs.declared.waiting.handset.HandsetRow.{HandsetRow
 use Rattle.sms_centre_rows.specs.declared.waiting.handset_link.HandsetLink.{HandsetLink}
 use Rattle.sms_centre_rows.specs.declared.waiting.progress.Progress.{Progress}
 use Rattle.sms_centre_rows.specs.declared.waiting.queued_part.QueuedPart.{QueuedPart}
-use Rattle.sms_centre_rows.specs.waiting.Links.{Links, line_at, line_of, put_line, raised as raised_line, turn_line}
+use Rattle.sms_centre_rows.specs.waiting.Links.{Links, link_at, link_of, put_link, raised as raised_link, turn_link}
 use Rattle.sms_centre_rows.specs.waiting.References.{handset_at}
 use Rattle.sms_centre_rows.specs.waiting.Trying.{due_at, finished, later}
 use Rattle.sms_centre_spec.specs.declared.event.CentreEvent.TheVariants.{Tick}
-use Rattle.sms_centre_spec.specs.CentreEvent.{aged, at_moment, drop_all, dropped, expire_all, expired, fire_at, fire_line, fire_mentioned, fire_others, fired, happened, is_mentioned, raise, raise_all, raised, report_limit, timed_out}
+use Rattle.sms_centre_spec.specs.CentreEvent.{aged, at_moment, drop_all, dropped, expire_all, expired, fire_at, fire_link, fire_mentioned, fire_others, fired, happened, is_mentioned, raise, raise_all, raised, report_limit, timed_out}
 use Rattle.sms_centre_spec.specs.Draft.{Core, Draft, Store, draft_of, handsets_in, in_store, messages_in, on_links, parts_in, priorities_in, reports_in, waiting_in}
 use Rattle.sms_centre_spec.specs.Ends.{end}
 use Rattle.sms_centre_spec.specs.Orders.{message_due, parts_among}
@@ -197,23 +197,23 @@ module _ (goes : ℕ → Bool) where
   timed_alike h (Some (Opened unit)) d k = (refl, k)
   timed_alike h (Some (Ended transfer ending)) d k = conclude_alike goes h transfer ending d k
 
-  fire_line_alike : (line : HandsetLink) → Commutes (fire_line line)
-  fire_line_alike line d k =
-      let turn : Turn = fired_link d.store.moment line.link in timed_alike line.handset turn.out.up (on_links (turn_line line turn d.links) d) k
+  fire_link_alike : (link : HandsetLink) → Commutes (fire_link link)
+  fire_link_alike link d k =
+      let turn : Turn = fired_link d.store.moment link.near_end in timed_alike link.handset turn.out.up (on_links (turn_link link turn d.links) d) k
 
   fire_at_alike : (o : Option HandsetLink) → Commutes (fire_at o)
   fire_at_alike None d k = (refl, k)
-  fire_at_alike (Some line) d k = fire_line_alike line d k
+  fire_at_alike (Some link) d k = fire_link_alike link d k
 
   mentioned_alike : (hs : List HandsetRow) → Commutes (fire_mentioned hs)
   mentioned_alike [] d k = (refl, k)
   mentioned_alike (h ∷ hs) d k =
-      let o : Option HandsetLink = line_at h.number d.links.lines in then_alike (fire_mentioned hs) (mentioned_alike hs) (fire_at o (draft_without goes d)) (fire_at o d) (fire_at_alike o d k)
+      let o : Option HandsetLink = link_at h.number d.links.all in then_alike (fire_mentioned hs) (mentioned_alike hs) (fire_at o (draft_without goes d)) (fire_at o d) (fire_at_alike o d k)
 
   others_alike : (hs : List HandsetRow) (ls : List HandsetLink) → Commutes (fire_others hs ls)
   others_alike hs [] d k = (refl, k)
   others_alike hs (l ∷ ls) d k =
-      let o : Option HandsetLink = line_at l.handset d.links.lines in
+      let o : Option HandsetLink = link_at l.handset d.links.all in
       let b : Bool = is_mentioned (handset_at l.handset hs) in
       let e : Draft = draft_without goes d in
       then_alike (fire_others hs ls) (others_alike hs ls) (if b then e else fire_at o e) (if b then d else fire_at o d)
@@ -222,13 +222,13 @@ module _ (goes : ℕ → Bool) where
   fired_alike : Commutes fired
   fired_alike d k =
       let hs : List HandsetRow = handsets_in d.store in
-      then_alike (fire_others hs d.links.lines) (others_alike hs d.links.lines) (fire_mentioned hs (draft_without goes d)) (fire_mentioned hs d) (mentioned_alike hs d k)
+      then_alike (fire_others hs d.links.all) (others_alike hs d.links.all) (fire_mentioned hs (draft_without goes d)) (fire_mentioned hs d) (mentioned_alike hs d k)
 
   pub raise_alike : (h : List ℕ) → Commutes (raise h)
   raise_alike h d k =
-      let line : HandsetLink = line_of h d.links.lines in
-      let p : Pair goes (due_now line.handset (store_without goes d.store)) (due_now line.handset d.store) = due_pair line.handset d.store k in
-      let links : Links = put_line (raised_line line) d.links in
+      let link : HandsetLink = link_of h d.links.all in
+      let p : Pair goes (due_now link.handset (store_without goes d.store)) (due_now link.handset d.store) = due_pair link.handset d.store k in
+      let links : Links = put_link (raised_link link) d.links in
       (ap (λ (e : Store). record { store = e; links = links; bindings = d.bindings; answer = d.answer }) p.0, p.1)
 
   raise_all_alike : (ls : List HandsetLink) → Commutes (raise_all ls)
@@ -239,7 +239,7 @@ module _ (goes : ℕ → Bool) where
       (alike_if goes l.is_awaited (raise l.handset e) (raise l.handset d) e d (raise_alike l.handset d k) (refl, k))
 
   raised_alike : Commutes raised
-  raised_alike d k = raise_all_alike d.links.lines d k
+  raised_alike d k = raise_all_alike d.links.all d k
 
   pub tick_same : (now : ℕ) (c : Core) → IsSound c.rows → CanForget goes c → Same goes (happened (Tick now) (core_without goes c)) (happened (Tick now) c)
   tick_same now c s can =

@@ -37,11 +37,11 @@ is_carried id (Some transfer) = is_held_for id transfer.tag
 
 abbrev pub is_on_way : ℕ → List HandsetLink → Bool
 is_on_way id [] = false
-is_on_way id (l ∷ ls) = is_carried id l.link.under_way || is_on_way id ls
+is_on_way id (l ∷ ls) = is_carried id l.near_end.under_way || is_on_way id ls
 
 abbrev pub may_go_now : ℕ → Core → MessageRow → Bool
 may_go_now before c m =
-    may_go before c.rows m && (not (is_unanswered m.id c.sessions) && not (is_on_way m.id c.lines))
+    may_go before c.rows m && (not (is_unanswered m.id c.sessions) && not (is_on_way m.id c.links))
 
 abbrev pub going_now : ℕ → ℕ → ℕ → Core → List ℕ
 going_now before from most c = going_from (may_go_now before c) from most c.rows.messages

@@ -23,7 +23,7 @@ use Rattle.sms_centre_spec.specs.Draft.{Core, Draft, Store, core_of, messages_in
 use Rattle.sms_centre_spec.specs.forgetting.Forgetting.{MayGo, claims_left, kept, part_id, report_id, rows_without}
 
 abbrev pub core_without : (ℕ → Bool) → Core → Core
-core_without goes c = record { rows = rows_without goes c.rows; moment = c.moment; lines = c.lines; sessions = c.sessions }
+core_without goes c = record { rows = rows_without goes c.rows; moment = c.moment; links = c.links; sessions = c.sessions }
 
 -- the changes are the same, and what goes is kept as bars
 abbrev pub store_without : (ℕ → Bool) → Store → Store
@@ -117,4 +117,4 @@ IsAway goes None = Unit {0}
 IsAway goes (Some transfer) = IsAwayTag goes transfer.tag
 
 abbrev pub AreAway : (ℕ → Bool) → Core → Type 0
-AreAway goes c = (l : HandsetLink) → Among l c.lines → IsAway goes l.link.under_way
+AreAway goes c = (l : HandsetLink) → Among l c.links → IsAway goes l.near_end.under_way

@@ -44,8 +44,8 @@ use Rattle.sms_tpdu.specs.declared.up.Up.TheVariants.{Submit, DeliverReport}
 use Rattle.sms_tpdu.proofs.Carriers.{up_takes}
 use Rattle.sms_centre_rows.specs.waiting.SoundAllocations.{IsNumber}
 use Rattle.sms_centre_rows.specs.declared.waiting.handset_link.HandsetLink.{HandsetLink}
-use Rattle.sms_centre_rows.specs.waiting.Links.{Links, line_at, line_of, or_new_line}
-use Rattle.sms_centre_spec.specs.CentreEvent.{follow, lines_up}
+use Rattle.sms_centre_rows.specs.waiting.Links.{Links, link_at, link_of, or_new_link_to}
+use Rattle.sms_centre_spec.specs.CentreEvent.{follow, links_up}
 use Rattle.sms_centre_spec.specs.Draft.{Draft, Store}
 use Rattle.sms_centre_spec.specs.Offering.{offer_on}
 use Rattle.sms_centre_spec.specs.Receiving.{has_memory, refuse, reject, reply, submit_received, unit_received}
@@ -116,12 +116,12 @@ fault_alike _ = (refl, refl)
 module _ (centre : Address) (from : List ℕ) (now : ℕ) (unit : List ℕ) (tag : Holder) where
   -- the unit is in, with links to these handsets beside the sender's
   abbrev start : List (List ℕ) → Draft
-  start others = drafted (store_for centre now) (links_opened from unit (lines_up others))
+  start others = drafted (store_for centre now) (links_opened from unit (links_up others))
 
   -- an answer, where nothing waits
   answer_sent : (others : List (List ℕ)) (kind : Kind) (reference : ℕ) (octets : List ℕ) → Sends from (answer octets) (reply from kind reference tag octets (start others))
   answer_sent others kind reference octets =
-      ap (λ (d : Draft). outputs (follow d).links.frames) (replied_is from unit (lines_up others) (store_for centre now) kind reference tag octets)
+      ap (λ (d : Draft). outputs (follow d).links.frames) (replied_is from unit (links_up others) (store_for centre now) kind reference tag octets)
 
   fault_sent : (others : List (List ℕ)) (fault : RelayFault) → Sends from (answer (unreadable_answer unit fault)) (unit_received from tag unit (Err fault) (start others))
   fault_sent others fault =
@@ -131,7 +131,7 @@ module _ (centre : Address) (from : List ℕ) (now : ℕ) (unit : List ℕ) (tag
 
   memory_sent : (others : List (List ℕ)) (reference : ℕ) → Sends from (answer (ack_down reference None)) (unit_received from tag unit (Ok (Smma reference)) (start others))
   memory_sent others reference =
-      ap (λ (d : Draft). outputs (follow (has_memory from d)).links.frames) (replied_is from unit (lines_up others) (store_for centre now) Ack reference tag (ack_down reference None))
+      ap (λ (d : Draft). outputs (follow (has_memory from d)).links.frames) (replied_is from unit (links_up others) (store_for centre now) Ack reference tag (ack_down reference None))
 
   refused : (others : List (List ℕ)) (reference : ℕ) (refusal : SubmitRefusal) (own : Refusal) → IsMoment now → IsAlike refusal own
       → (r : Relayed) × IsRefused now reference own r × Sends from r (refuse from reference tag refusal (start others))
@@ -155,29 +155,29 @@ module _ (centre : Address) (from : List ℕ) (now : ℕ) (unit : List ℕ) (tag
     abbrev accepted : Relayed
     accepted = record { answer = Some accepting; down = Some (s.destination_address, unit_down centre from now s) }
 
-    abbrev line : HandsetLink
-    line = answered from unit now Ack reference tag accepting
+    abbrev link : HandsetLink
+    link = answered from unit now Ack reference tag accepting
 
-    -- it is offered on that line
-    offered_there : (others : List (List ℕ)) (opened : Option Opened) (answered : Option Carried) → line_of to (line ∷ lines_up others) ≡ idle to opened answered
+    -- it is offered on that link
+    offered_there : (others : List (List ℕ)) (opened : Option Opened) (answered : Option Carried) → link_of to (link ∷ links_up others) ≡ idle to opened answered
         → Sends from accepted (submit_received from reference tag (Ok (submitted centre from now s)) (start others))
     offered_there others opened answered there =
         let store : Store = accepted_store centre from now s in
-        let links : Links = links_answered from unit (lines_up others) now Ack reference tag accepting in
-        ap (λ (d : Draft). outputs (follow d).links.frames) (accepted_is centre from now s reference tag (links_opened from unit (lines_up others)))
-        ∙ ap (λ (d : Draft). outputs (follow d).links.frames) (replied_is from unit (lines_up others) store Ack reference tag accepting)
+        let links : Links = links_answered from unit (links_up others) now Ack reference tag accepting in
+        ap (λ (d : Draft). outputs (follow d).links.frames) (accepted_is centre from now s reference tag (links_opened from unit (links_up others)))
+        ∙ ap (λ (d : Draft). outputs (follow d).links.frames) (replied_is from unit (links_up others) store Ack reference tag accepting)
         ∙ ap (λ (l : HandsetLink). outputs (offer_on l store links).frames) there
-        ∙ offered_is centre from now s opened answered links.lines (acknowledged from) (replied_answer from Ack reference tag accepting)
+        ∙ offered_is centre from now s opened answered links.all (acknowledged from) (replied_answer from Ack reference tag accepting)
 
     accepted_sent : (b : Bool) → bytes_eq from to ≡ b → Sends from accepted (submit_received from reference tag (Ok (submitted centre from now s)) (start (if b then [] else to ∷ [])))
     accepted_sent true e =
-        offered_there [] line.link.links.opened line.link.answered
-        (ap (λ (o : Option HandsetLink). or_new_line to o) (cond-true (bytes_eq from to) (Some line) None e)
-        ∙ ap (λ (handset : List ℕ). idle handset line.link.links.opened line.link.answered) ((bytes_eq-Decides from to).0 e))
+        offered_there [] link.near_end.links.opened link.near_end.answered
+        (ap (λ (o : Option HandsetLink). or_new_link_to to o) (cond-true (bytes_eq from to) (Some link) None e)
+        ∙ ap (λ (handset : List ℕ). idle handset link.near_end.links.opened link.near_end.answered) ((bytes_eq-Decides from to).0 e))
     accepted_sent false e =
         offered_there (to ∷ []) None None
-        (ap (λ (o : Option HandsetLink). or_new_line to o)
-        (cond-false (bytes_eq from to) (Some line) (line_at to (sender to ∷ [])) e ∙ cond-true (bytes_eq to to) (Some (sender to)) None (octets_themselves to)))
+        (ap (λ (o : Option HandsetLink). or_new_link_to to o)
+        (cond-false (bytes_eq from to) (Some link) (link_at to (sender to ∷ [])) e ∙ cond-true (bytes_eq to to) (Some (sender to)) None (octets_themselves to)))
 
     accepted_is_so : (octets : List ℕ) → IsNumber from → IsMoment now → IsSubmit octets s → IsAccepted centre (own_address from) now reference s accepted
     accepted_is_so octets number moment is =

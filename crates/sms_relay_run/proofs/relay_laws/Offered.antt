@@ -26,7 +26,7 @@ use Rattle.sms_tpdu.proofs.MoreBits.{more_messages_keeps}
 use Rattle.sms_centre_rows.specs.declared.waiting.handset_link.HandsetLink.{HandsetLink}
 use Rattle.sms_centre_rows.specs.declared.waiting.handset_link.Sent.{Sent}
 use Rattle.sms_centre_rows.specs.declared.waiting.queued_part.QueuedPart.{QueuedPart}
-use Rattle.sms_centre_rows.specs.waiting.Links.{Links, turn_line}
+use Rattle.sms_centre_rows.specs.waiting.Links.{Links, turn_link}
 use Rattle.sms_centre_rows.specs.waiting.Waiting.{next, preceding, waits_beside}
 use Rattle.sms_centre_spec.specs.Draft.{Store, waiting_in}
 use Rattle.sms_centre_spec.specs.Offering.{offer_among, offer_queued, offer_on, read_of, unit_of}
@@ -47,14 +47,14 @@ picked now = ap (λ (o : Option QueuedPart). preceding o None) (cond-true (nat_l
 alone : (now : ℕ) → waits_beside now (waiting_queued now) (waiting_queued now ∷ []) ≡ false
 alone now = or_from (nat_le now now && false) false (and_right (nat_le now now) false refl) refl
 
--- a line that is up, on which this side began nothing yet
+-- a link that is up, on which this side began nothing yet
 abbrev pub idle : List ℕ → Option Opened → Option Carried → HandsetLink
 idle to opened answered = record {
   handset = to;
   is_up = true;
   is_awaited = false;
   is_full = false;
-  link = record {
+  near_end = record {
     side = Centre;
     links = record { next_identifier = 0; begun = None; opened = opened; last_answer = None; last_opening = None };
     under_way = None;
@@ -91,24 +91,24 @@ module _ (centre : Address) (from : List ℕ) (now : ℕ) (s : SubmitOf) where
 
   abbrev offered_links : Option Opened → Option Carried → Bool → Links → Links
   offered_links opened answered more links =
-      let line : HandsetLink = idle to opened answered in
-      turn_line line (begun now 0 (Part 1 1) (unit_of (waiting_queued now) more store) line.link) (read_of (waiting_queued now) store links)
+      let link : HandsetLink = idle to opened answered in
+      turn_link link (begun now 0 (Part 1 1) (unit_of (waiting_queued now) more store) link.near_end) (read_of (waiting_queued now) store links)
 
   taken_up : (opened : Option Opened) (answered : Option Carried) (links : Links) → offer_on (idle to opened answered) store links ≡ offered_links opened answered false links
   taken_up opened answered links =
-      let line : HandsetLink = idle to opened answered in
-      ap (λ (ls : List QueuedPart). offer_among line ls store links) waits
-      ∙ ap (λ (o : Option QueuedPart). offer_queued line (waiting_queued now ∷ []) o store links) (picked now)
+      let link : HandsetLink = idle to opened answered in
+      ap (λ (ls : List QueuedPart). offer_among link ls store links) waits
+      ∙ ap (λ (o : Option QueuedPart). offer_queued link (waiting_queued now ∷ []) o store links) (picked now)
       ∙ ap (λ (more : Bool). offered_links opened answered more links) (alone now)
 
   told_alone : with_more_messages false (tpdu centre from now s) ≡ tpdu centre from now s
   told_alone = more_messages_keeps false (deliver_head (deliver_of now (submitted centre from now s) (body centre from now s))) _ (head_tells (is_wish (wish_of s.status_report_request)) s.user_data_header_indicator s.reply_path)
 
-  -- behind the frames that were sent on the sender's line
-  pub offered_is : (opened : Option Opened) (answered : Option Carried) (lines : List HandsetLink) (ack answer : Sent)
-      → outputs (offer_on (idle to opened answered) store (links_of lines (ack ∷ answer ∷ []))).frames
+  -- behind the frames that were sent on the sender's link
+  pub offered_is : (opened : Option Opened) (answered : Option Carried) (links : List HandsetLink) (ack answer : Sent)
+      → outputs (offer_on (idle to opened answered) store (links_of links (ack ∷ answer ∷ []))).frames
       ≡ (ack.handset, ack.frame.octets) ∷ (answer.handset, answer.frame.octets) ∷ (to, frame_down) ∷ []
   unfolding begin_step
-  offered_is opened answered lines ack answer =
-      ap (λ (links : Links). outputs links.frames) (taken_up opened answered (links_of lines (ack ∷ answer ∷ [])))
+  offered_is opened answered links ack answer =
+      ap (λ (links : Links). outputs links.frames) (taken_up opened answered (links_of links (ack ∷ answer ∷ [])))
       ∙ ap (λ (octets : List ℕ). (ack.handset, ack.frame.octets) ∷ (answer.handset, answer.frame.octets) ∷ (to, spelled (DataUnit (in_transaction FromOriginator 0) (data_down 0 (relay_address centre) octets))) ∷ []) told_alone

@@ -19,7 +19,7 @@ use Rattle.sms_centre_rows.specs.reports.Reports.{is_open_status, report_of}
 use Rattle.sms_centre_rows.specs.declared.reports.report.ReportRow.{ReportRow}
 use Rattle.sms_rows.proofs.table.Tables.{found_key}
 use Rattle.sms_tpdu.specs.MoreMessages.{compared}
-use Rattle.sms_centre_rows.specs.waiting.Links.{filled, line_of}
+use Rattle.sms_centre_rows.specs.waiting.Links.{filled, link_of}
 use Rattle.sms_centre_rows.specs.declared.waiting.handset_link.HandsetLink.{HandsetLink}
 use Rattle.sms_centre_spec.proofs.SoundStores.{SoundStore}
 use Rattle.sms_centre_spec.proofs.Steady.{message_own, report_own}
@@ -33,14 +33,14 @@ use Rattle.sms_world_model.specs.World.{Down, Final, Frame, Allocation, IsUnansw
 use Rattle.sms_world_model.specs.WorldStep.{Close, Fail, HasReference, IsSent}
 use Rattle.sms_world.specs.centres_refine_the_world.CentreRefinement.{CentreRefines, StoreRefines}
 use Rattle.sms_world.specs.centres_refine_the_world.RefinesGiven.{given_part}
-use Rattle.sms_world.specs.centres_refine_the_world.RefinesLines.{IsNumbered, RefinesLine}
+use Rattle.sms_world.specs.centres_refine_the_world.RefinesLinks.{IsNumbered, RefinesLink}
 use Rattle.sms_world.specs.headline.SeenWorld.{IsStateOf, PartSeen, part_seen, parts_by}
 use Rattle.sms_world.proofs.centres_refine_the_world.Aging.{closed_refines, open_in_world}
 use Rattle.sms_world.proofs.centres_refine_the_world.ByOctets.{by_octet_is}
 use Rattle.sms_world.proofs.centres_refine_the_world.Ending.{can_end, end_is_reached, ended_refines}
 use Rattle.sms_world.proofs.centres_refine_the_world.LinksChange.{again_both, late_both}
 use Rattle.sms_world.proofs.centres_refine_the_world.QueuedParts.{none_of}
-use Rattle.sms_world.proofs.centres_refine_the_world.Offers.{line_refines, lines_with}
+use Rattle.sms_world.proofs.centres_refine_the_world.Offers.{link_refines, links_with}
 use Rattle.sms_world.specs.centre_runs_are_steps.Stages.{AnswersInEvent, Settles}
 use Rattle.sms_world.proofs.centre_runs_are_steps.DoneParts.{part_id}
 use Rattle.sms_world.proofs.centre_runs_are_steps.Settling.{part_settles}
@@ -146,7 +146,7 @@ module _ (d : Draft) (w : World) (sound : SoundStore d.store) (b : World) (s : C
   too_late : AnswersInEvent handed d.store.moment b (ended_with Late u.handset t.tag d) w
   too_late =
       still handed d.store.moment b (λ v. CentreRefines b (ended_with Late u.handset t.tag d) v) w
-      (record { frames = s.frames; whole = s.whole; lines = s.lines; rows = (late_both w t.tag d.store (sound, s.rows)).1 })
+      (record { frames = s.frames; whole = s.whole; links = s.links; rows = (late_both w t.tag d.store (sound, s.rows)).1 })
 
   module _ (for_it : IsSentFor u.handset u.reference t.tag (rows_of d.store)) (small : IsNumbered t.tag) where
     pub acknowledged : IsSent w u Down Ack → AnswersInEvent handed d.store.moment b (conclude u.handset t Acknowledged d) w
@@ -159,19 +159,19 @@ module _ (d : Draft) (w : World) (sound : SoundStore d.store) (b : World) (s : C
     refused cause tpdu sent =
         let code : ℕ = number_of cause in
         let m : ℕ = d.store.moment in
-        let line : HandsetLink = line_of u.handset d.links.lines in
-        let l : RefinesLine w.bag line = line_refines w.bag u.handset d.links.lines s.lines in
+        let link : HandsetLink = link_of u.handset d.links.all in
+        let l : RefinesLink w.bag link = link_refines w.bag u.handset d.links.all s.links in
         let P : Verdict → Type 0 = λ v. AnswersInEvent handed d.store.moment b (ended_with v u.handset t.tag d) w in
         cond_both (is_open t.tag d.store) (cause_verdict code) Late P
         (λ waits. cond_both (code == 22) HandsetFull (if is_temporary code then Again else Refused) P
         (λ e. still handed m b (λ v. CentreRefines b (ended_with HandsetFull u.handset t.tag d) v) w (record {
           frames = s.frames;
           whole = s.whole;
-          lines = lines_with w.bag (filled line) d.links.lines (record { next = l.next; opened = l.opened; begun = l.begun }) s.lines;
+          links = links_with w.bag (filled link) d.links.all (record { next = l.next; opened = l.opened; begun = l.begun }) s.links;
           rows = full_refines t.tag d.store w s.rows;
         }))
         (λ e. cond_both (is_temporary code) Again Refused P
         (λ f. still handed m b (λ v. CentreRefines b (ended_with Again u.handset t.tag d) v) w
-        (record { frames = s.frames; whole = s.whole; lines = s.lines; rows = (again_both w t.tag d.store (sound, s.rows)).1 }))
+        (record { frames = s.frames; whole = s.whole; links = s.links; rows = (again_both w t.tag d.store (sound, s.rows)).1 }))
         (λ f. settles_store handed m b (holder_ended Refused t.tag d.store) d w s (refused_holder d.store w sound s.rows handed b u was t.tag sent for_it small waits))))
         (λ e. too_late)

@@ -16,16 +16,16 @@ use Rattle.sms_world.proofs.centre_runs_are_steps.NothingOffered.{answered_nothi
 use Rattle.sms_world_model.specs.World.{World}
 use Rattle.sms_world.specs.centres_refine_the_world.CentreRefinement.{CentreRefines, StoreRefines}
 use Rattle.sms_world.specs.centres_refine_the_world.FramesOut.{AreWholeDown, stacked_down}
-use Rattle.sms_world.specs.centres_refine_the_world.RefinesLines.{RefinesLines}
+use Rattle.sms_world.specs.centres_refine_the_world.RefinesLinks.{RefinesLinks}
 use Rattle.sms_world.proofs.centres_refine_the_world.SessionsChange.{answered_refines}
 use Rattle.sms_world.proofs.centres_refine_the_world.QuietEvents.{start}
 
--- nothing was sent, and the lines are as they were
+-- nothing was sent, and the links are as they were
 same_links : (x d : Draft) (w : World) → x.links ≡ d.links → CentreRefines w d w → StoreRefines x.store w → CentreRefines w x w
 same_links x d w e s rows = record {
   frames = subst (λ (a : Links). w.bag ≡ stacked_down a.frames w.bag) (sym e) s.frames;
   whole = subst (λ (a : Links). AreWholeDown a.frames) (sym e) s.whole;
-  lines = subst (λ (a : Links). RefinesLines w.bag a.lines) (sym e) s.lines;
+  links = subst (λ (a : Links). RefinesLinks w.bag a.all) (sym e) s.links;
   rows = rows;
 }
 

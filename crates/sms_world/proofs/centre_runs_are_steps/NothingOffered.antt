@@ -16,12 +16,12 @@ use Rattle.sms_centre_rows.specs.reports.Reports.{is_status, report_key, report_
 use Rattle.sms_centre_rows.specs.reports.Waiting.{report_queued, reports_to, with_reports as with_queued}
 use Rattle.sms_centre_rows.specs.declared.reports.report.ReportRow.{ReportRow}
 use Rattle.sms_centre_rows.proofs.reports.AllWaiting.{report_found}
-use Rattle.sms_centre_rows.proofs.waiting.LinksRepresented.{line_of_handset}
+use Rattle.sms_centre_rows.proofs.waiting.LinksRepresented.{link_of_handset}
 use Rattle.sms_centre_rows.proofs.reports.ReportKinds.{no_status}
 use Rattle.sms_rows.specs.table.Table.{Rises, put, row_at}
 use Rattle.sms_rows.proofs.table.Tables.{among_found, found_among}
 use Rattle.sms_centre_rows.specs.waiting.Keys.{queued_key}
-use Rattle.sms_centre_rows.specs.waiting.Links.{Links, is_ready, line_of}
+use Rattle.sms_centre_rows.specs.waiting.Links.{Links, is_ready, link_of}
 use Rattle.sms_centre_rows.specs.waiting.Revisions.{amended}
 use Rattle.sms_centre_rows.specs.waiting.Trying.{finished}
 use Rattle.sms_centre_rows.specs.waiting.Waiting.{next}
@@ -41,15 +41,15 @@ use Rattle.sms_world.specs.centre_runs_are_steps.OfferedLaws.{AnsweredLaw, Query
 
 -- ---- where all was offered, nothing is
 
-nothing_to : (number : List ℕ) (s : Store) (links : Links) → IsOffered s links.lines → offer_to number s links ≡ links
+nothing_to : (number : List ℕ) (s : Store) (links : Links) → IsOffered s links.all → offer_to number s links ≡ links
 nothing_to number s links k =
-    let line : HandsetLink = line_of number links.lines in
-    let own : line.handset ≡ number = line_of_handset number links.lines in
-    cond_both (is_ready line) (offer_among line (waiting_in line.handset s) s links) links (λ (a : Links). a ≡ links)
-    (λ t. ap (λ (o : Option QueuedPart). offer_queued line (waiting_in line.handset s) o s links) (ap (λ (n : List ℕ). next s.moment (waiting_in n s)) own ∙ k number t))
+    let link : HandsetLink = link_of number links.all in
+    let own : link.handset ≡ number = link_of_handset number links.all in
+    cond_both (is_ready link) (offer_among link (waiting_in link.handset s) s links) links (λ (a : Links). a ≡ links)
+    (λ t. ap (λ (o : Option QueuedPart). offer_queued link (waiting_in link.handset s) o s links) (ap (λ (n : List ℕ). next s.moment (waiting_in n s)) own ∙ k number t))
     (λ t. refl)
 
-pub nothing_offered : (hs : List HandsetRow) (s : Store) (links : Links) → IsOffered s links.lines → offer_all hs s links ≡ links
+pub nothing_offered : (hs : List HandsetRow) (s : Store) (links : Links) → IsOffered s links.all → offer_all hs s links ≡ links
 nothing_offered [] s links k = refl
 nothing_offered (h ∷ hs) s links k = ap (λ (a : Links). offer_all hs s a) (nothing_to h.number s links k) ∙ nothing_offered hs s links k
 
@@ -67,8 +67,8 @@ asked : (a : Option CentreAccount) (q : QuerySm) (d : Draft) → ((query_by a q 
 asked None q d = (refl, refl)
 asked (Some a) q d = (queried_store _ d, queried_links _ d)
 
--- what changes neither the rows nor the lines
-unchanged : (x d : Draft) → x.store ≡ d.store → x.links ≡ d.links → IsOffered d.store d.links.lines → (follow x).links ≡ d.links
+-- what changes neither the rows nor the links
+unchanged : (x d : Draft) → x.store ≡ d.store → x.links ≡ d.links → IsOffered d.store d.links.all → (follow x).links ≡ d.links
 unchanged x d e f k =
     ap (λ (s : Store). offer_all (handsets_in s) s x.links) e ∙ ap (λ (a : Links). offer_all (handsets_in d.store) d.store a) f ∙ nothing_offered (handsets_in d.store) d.store d.links k
 
@@ -109,10 +109,10 @@ receipt_there c session number sound e n i r q =
     ap (λ (z : ReportRow). is_status z.kind) (sym (same_Some x.0 r (sym x.1.0 ∙ q))) ∙ no_status x.0.kind x.1.1
 
 -- what waits is as before
-ended_offered : (accepted : Bool) (n id : ℕ) (o : Option ReportRow) (s : Store) (lines : List HandsetLink) → Rises report_key (reports_in s) → report_of id (reports_in s) ≡ o → ((r : ReportRow) → o ≡ Some r → is_status r.kind ≡ false)
-    → IsOffered s lines → IsOffered (with_reports (receipt_ended accepted n o s.reports) s) lines
-ended_offered accepted n id None s lines keys there f k = k
-ended_offered accepted n id (Some r) s lines keys there f k = λ number ready.
+ended_offered : (accepted : Bool) (n id : ℕ) (o : Option ReportRow) (s : Store) (links : List HandsetLink) → Rises report_key (reports_in s) → report_of id (reports_in s) ≡ o → ((r : ReportRow) → o ≡ Some r → is_status r.kind ≡ false)
+    → IsOffered s links → IsOffered (with_reports (receipt_ended accepted n o s.reports) s) links
+ended_offered accepted n id None s links keys there f k = k
+ended_offered accepted n id (Some r) s links keys there f k = λ number ready.
     let q : Progress = if accepted then finished r.progress else receipt_tried n r.progress in
     let rs : List ReportRow = reports_in s in
     let own : row_at report_key (report_key r) rs ≡ Some r = among_found report_key r rs keys (report_found id r rs there).0 in
@@ -124,13 +124,13 @@ ended_offered accepted n id (Some r) s lines keys there f k = λ number ready.
     ap (λ (ls : List QueuedPart). next s.moment ls) same ∙ k number ready
 
 answered_offered : (id : ℕ) (accepted : Bool) (o : Option Session) (d : Draft) → ((session : Session) → o ≡ Some session → (n : ℕ) → Among n session.unanswered → (r : ReportRow) → report_of n (reports_in d.store) ≡ Some r → is_status r.kind ≡ false)
-    → Rises report_key (reports_in d.store) → IsOffered d.store d.links.lines → (follow (answered_by id accepted o d)).links ≡ d.links
+    → Rises report_key (reports_in d.store) → IsOffered d.store d.links.all → (follow (answered_by id accepted o d)).links ≡ d.links
 answered_offered id accepted None d f keys k = nothing_offered (handsets_in d.store) d.store d.links k
 answered_offered id accepted (Some session) d f keys k =
     let e : Draft = record d { store = receipt_answered id accepted d.store; bindings = answered_in id session d.bindings } in
     cond_both (is_among id session.unanswered) e d (λ (x : Draft). (follow x).links ≡ d.links)
     (λ t. nothing_offered (handsets_in d.store) (receipt_answered id accepted d.store) d.links
-    (ended_offered accepted d.store.moment id (report_of id (reports_in d.store)) d.store d.links.lines keys refl (λ r q. f session refl id (among_so id session.unanswered t) r q) k))
+    (ended_offered accepted d.store.moment id (report_of id (reports_in d.store)) d.store d.links.all keys refl (λ r q. f session refl id (among_so id session.unanswered t) r q) k))
     (λ t. nothing_offered (handsets_in d.store) d.store d.links k)
 
 pub answered_nothing : AnsweredLaw

@@ -26,7 +26,7 @@ use Rattle.sms_tpdu.specs.declared.fault.TpduFault.{TpduFault}
 use Rattle.sms_tpdu.specs.declared.submit.Submit.{Submit as SubmitOf}
 use Rattle.sms_tpdu.specs.declared.up.Up.{Up as UpTpdu}
 use Rattle.sms_tpdu.specs.declared.up.Up.TheVariants.{DeliverReport, Submit as SubmitTpdu}
-use Rattle.sms_centre_rows.specs.waiting.Links.{emptied, line_of}
+use Rattle.sms_centre_rows.specs.waiting.Links.{emptied, link_of}
 use Rattle.sms_centre_rows.specs.declared.waiting.handset_link.HandsetLink.{HandsetLink}
 use Rattle.sms_centre_spec.proofs.NextNumbers.{below_next_number}
 use Rattle.sms_centre_spec.proofs.SoundStores.{SoundStore}
@@ -40,10 +40,10 @@ use Rattle.sms_world_model.specs.Submission.{Submission}
 use Rattle.sms_world_model.specs.World.{Carried as Carried_frame, Frame, Up, World}
 use Rattle.sms_world_model.specs.WorldStep.{Asks, IsSent, Memory_free, Receive, Reject, submitted}
 use Rattle.sms_world.specs.centres_refine_the_world.CentreRefinement.{CentreRefines}
-use Rattle.sms_world.specs.centres_refine_the_world.RefinesLines.{RefinesLine}
+use Rattle.sms_world.specs.centres_refine_the_world.RefinesLinks.{RefinesLink}
 use Rattle.sms_world.proofs.centres_refine_the_world.Entering.{SubmitsAs, entered_as, under_submits}
 use Rattle.sms_world.proofs.centres_refine_the_world.LinksChange.{due_now_both}
-use Rattle.sms_world.proofs.centres_refine_the_world.Offers.{line_refines, lines_with}
+use Rattle.sms_world.proofs.centres_refine_the_world.Offers.{link_refines, links_with}
 use Rattle.sms_world.proofs.centres_refine_the_world.Playing.{store_is_reached}
 use Rattle.sms_world.specs.centre_runs_are_steps.Stages.{AnswersInEvent}
 use Rattle.sms_world.proofs.centre_runs_are_steps.Replying.{confirming, plain_ack, refusing, replies}
@@ -60,7 +60,7 @@ made_of accounts from now x u e =
     ok_is {E = SubmitRefusal} (submission_of from now x) u b.2
 
 module _ (h : List ℕ) (r : ℕ) (tag : Holder) (tpdu : List ℕ) (number : ℕ) (b : World) (d : Draft) (w : World) (sound : SoundStore d.store) (s : CentreRefines b d w)
-    (o : Opened) (awaits : Awaits (line_of h d.links.lines).link.links o) (was : WasHanded number b (data_sent h number r tpdu tag)) (sent : Among (Carried_frame (data_sent h number r tpdu tag)) w.bag) where
+    (o : Opened) (awaits : Awaits (link_of h d.links.all).near_end.links o) (was : WasHanded number b (data_sent h number r tpdu tag)) (sent : Among (Carried_frame (data_sent h number r tpdu tag)) w.bag) where
   abbrev m : ℕ
   m = d.store.moment
 
@@ -162,11 +162,11 @@ module _ (h : List ℕ) (r : ℕ) (tag : Holder) (tpdu : List ℕ) (number : ℕ
     where
       free : (e : Draft) (v : World) → CentreRefines b e v → SoundStore e.store → CentreRefines b (has_memory h e) v
       free e v y k =
-          let line : HandsetLink = line_of h e.links.lines in
-          let l : RefinesLine v.bag line = line_refines v.bag h e.links.lines y.lines in
+          let link : HandsetLink = link_of h e.links.all in
+          let l : RefinesLink v.bag link = link_refines v.bag h e.links.all y.links in
           record {
             frames = y.frames;
             whole = y.whole;
-            lines = lines_with v.bag (emptied line) e.links.lines (record { next = l.next; opened = l.opened; begun = l.begun }) y.lines;
+            links = links_with v.bag (emptied link) e.links.all (record { next = l.next; opened = l.opened; begun = l.begun }) y.links;
             rows = (due_now_both v h e.store (k, y.rows)).1;
           }

@@ -7,7 +7,7 @@ use Rattle.sms_rows.specs.table.Table.{row_at}
 use Rattle.sms_rows.proofs.table.Tables.{found_among}
 use Rattle.sms_link.specs.declared.ending.Side.TheVariants.{Centre}
 use Rattle.sms_link.specs.LinkTurn.{new_link}
-use Rattle.sms_centre_spec.specs.CentreEvent.{after_messages, after_references, after_reports, lines_awaited, lines_up, moment_of}
+use Rattle.sms_centre_spec.specs.CentreEvent.{after_messages, after_references, after_reports, links_awaited, links_up, moment_of}
 use Rattle.sms_centre_spec.specs.Draft.{rows_of}
 use Rattle.sms_centre_spec.specs.declared.rows.Rows.{Rows}
 use Rattle.sms_centre_rows.specs.declared.reports.report.ReportRow.{ReportRow}
@@ -23,23 +23,23 @@ use Rattle.sms_world.specs.centres_refine_the_world.CentreLaws.{BackLaw, FirstLa
 use Rattle.sms_world.proofs.centres_refine_the_world.ByOctets.{by_octet_some}
 use Rattle.sms_world.specs.headline.SeenWorld.{by_octet}
 use Rattle.sms_world.specs.centres_refine_the_world.RefinesGiven.{second_at, seconds_by}
-use Rattle.sms_world.specs.centres_refine_the_world.RefinesLines.{RefinesLine, RefinesLines}
+use Rattle.sms_world.specs.centres_refine_the_world.RefinesLinks.{RefinesLink, RefinesLinks}
 
--- ---- new lines
+-- ---- new links
 
-awaited_see : (bag : List Sent) (ns : List (List ℕ)) → RefinesLines bag (lines_awaited ns)
-awaited_see bag [] line i = absurd i
-awaited_see bag (n ∷ ns) line i = ⊎_elim
-    (λ (e : line ≡ record { handset = n; is_up = false; is_awaited = true; is_full = false; link = new_link Centre }).
-    subst (λ (z : HandsetLink). RefinesLine bag z) (sym e) (record { next = (let l : 0 < 7 = omega arith in l); opened = tt; begun = tt }))
-    (λ (a : Among line (lines_awaited ns)). awaited_see bag ns line a) i
+awaited_see : (bag : List Sent) (ns : List (List ℕ)) → RefinesLinks bag (links_awaited ns)
+awaited_see bag [] link i = absurd i
+awaited_see bag (n ∷ ns) link i = ⊎_elim
+    (λ (e : link ≡ record { handset = n; is_up = false; is_awaited = true; is_full = false; near_end = new_link Centre }).
+    subst (λ (z : HandsetLink). RefinesLink bag z) (sym e) (record { next = (let l : 0 < 7 = omega arith in l); opened = tt; begun = tt }))
+    (λ (a : Among link (links_awaited ns)). awaited_see bag ns link a) i
 
-up_see : (bag : List Sent) (ns : List (List ℕ)) → RefinesLines bag (lines_up ns)
-up_see bag [] line i = absurd i
-up_see bag (n ∷ ns) line i = ⊎_elim
-    (λ (e : line ≡ record { handset = n; is_up = true; is_awaited = false; is_full = false; link = new_link Centre }).
-    subst (λ (z : HandsetLink). RefinesLine bag z) (sym e) (record { next = (let l : 0 < 7 = omega arith in l); opened = tt; begun = tt }))
-    (λ (a : Among line (lines_up ns)). up_see bag ns line a) i
+up_see : (bag : List Sent) (ns : List (List ℕ)) → RefinesLinks bag (links_up ns)
+up_see bag [] link i = absurd i
+up_see bag (n ∷ ns) link i = ⊎_elim
+    (λ (e : link ≡ record { handset = n; is_up = true; is_awaited = false; is_full = false; near_end = new_link Centre }).
+    subst (λ (z : HandsetLink). RefinesLink bag z) (sym e) (record { next = (let l : 0 < 7 = omega arith in l); opened = tt; begun = tt }))
+    (λ (a : Among link (links_up ns)). up_see bag ns link a) i
 
 -- ---- no reference was given later than what rows have seen
 
@@ -82,7 +82,7 @@ reached_back b bag d handsets sessions w s =
     record {
       frames = refl;
       whole = tt;
-      lines = awaited_see bag handsets;
+      links = awaited_see bag handsets;
       rows = record {
         table = s.rows.table;
         reports = s.rows.reports;
@@ -97,7 +97,7 @@ pub first_refines : FirstLaw
 first_refines setup handsets sessions = record {
   frames = refl;
   whole = tt;
-  lines = up_see [] handsets;
+  links = up_see [] handsets;
   rows = record {
     table = record { there = λ id m e. absurd cc; only = λ id u st e. absurd cc };
     reports = record { there = λ id r e. absurd cc; only = λ x i. absurd i; still = λ id r e k n. absurd cc; opened = λ id i. absurd i };

@@ -25,18 +25,18 @@ use Rattle.sms_link.specs.declared.ending.Ending.{Ending}
 use Rattle.sms_link.specs.declared.ending.Ending.TheVariants.{Lost as LostEnd}
 use Rattle.sms_link.specs.declared.ending.Side.{Side}
 use Rattle.sms_link.specs.declared.ending.Upward.TheVariants.{Ended}
-use Rattle.sms_centre_rows.specs.waiting.Links.{line_at, line_of, to_handset, turn_line, turned}
+use Rattle.sms_centre_rows.specs.waiting.Links.{link_at, link_of, to_handset, turn_link, turned}
 use Rattle.sms_centre_rows.specs.waiting.References.{handset_at}
 use Rattle.sms_centre_rows.specs.declared.waiting.handset.HandsetRow.{HandsetRow}
 use Rattle.sms_centre_rows.specs.declared.waiting.handset_link.HandsetLink.{HandsetLink}
 use Rattle.sms_centre_rows.specs.declared.waiting.handset_link.Sent.{Sent as SentRow}
 use Rattle.sms_centre_spec.proofs.SoundAccepted.{sound_still}
-use Rattle.sms_centre_spec.proofs.SoundLinks.{line_found}
+use Rattle.sms_centre_spec.proofs.SoundLinks.{link_found}
 use Rattle.sms_centre_spec.proofs.SoundStores.{SoundStore}
 use Rattle.sms_centre_spec.proofs.Steady.{concluded_steady, due_now_steady}
 use Rattle.sms_centre_spec.specs.Transfers.{conclude}
 use Rattle.sms_centre_spec.proofs.Ticking.{fire_at_says, fire_mentioned_says, fired_says}
-use Rattle.sms_centre_spec.specs.CentreEvent.{fire_at, fire_line, fire_mentioned, fire_others, fired, is_mentioned, raise, raise_all, timed_out}
+use Rattle.sms_centre_spec.specs.CentreEvent.{fire_at, fire_link, fire_mentioned, fire_others, fired, is_mentioned, raise, raise_all, timed_out}
 use Rattle.sms_centre_spec.specs.Draft.{Draft, handsets_in, on_links}
 use Rattle.sms_world.proofs.frames_pass_between_sides.RunsOn.{end_both, run_both}
 use Rattle.sms_world.specs.headline.SeenFrames.{frame_down, sent_down}
@@ -44,11 +44,11 @@ use Rattle.sms_world_model.specs.WorldStep.{Run, end, Again, Step as WorldStep}
 use Rattle.sms_world_model.specs.ScriptRun.{items}
 use Rattle.sms_world_model.specs.World.{Sent, World}
 use Rattle.sms_world.specs.centres_refine_the_world.CentreRefinement.{CentreRefines}
-use Rattle.sms_world.specs.centres_refine_the_world.RefinesLines.{RefinesAnswerDown, RefinesBegunDown, RefinesLine, RefinesOpenedDown, WasSentDown}
+use Rattle.sms_world.specs.centres_refine_the_world.RefinesLinks.{RefinesAnswerDown, RefinesBegunDown, RefinesLink, RefinesOpenedDown, WasSentDown}
 use Rattle.sms_world.proofs.centres_refine_the_world.Aging.{InTick, tick_both}
 use Rattle.sms_world.proofs.centres_refine_the_world.LinksChange.{lost_law, raise_law}
-use Rattle.sms_world.proofs.centres_refine_the_world.Offers.{lines_with, stacked_both, whole_both}
-use Rattle.sms_world.proofs.centres_refine_the_world.Staying.{line_still}
+use Rattle.sms_world.proofs.centres_refine_the_world.Offers.{links_with, stacked_both, whole_both}
+use Rattle.sms_world.proofs.centres_refine_the_world.Staying.{link_still}
 use Rattle.sms_world.proofs.handset_runs_are_steps.Ticks.{fire_is, fires}
 
 -- ---- one stage after another
@@ -104,7 +104,7 @@ again_list m h u a b (f ∷ fs) d w k s =
     let refines : CentreRefines b e v = record {
       frames = ap (λ (bag : List Sent). sent_down h (length bag + 1) f (Some c) ∷ bag) s.frames ∙ sym (stacked_both d.links.frames (x ∷ []) b.bag);
       whole = whole_both d.links.frames (x ∷ []) s.whole (sent.0, tt);
-      lines = λ y i. line_still w.bag v.bag (λ z j. inr j) y (s.lines y i);
+      links = λ y i. link_still w.bag v.bag (λ z j. inr j) y (s.links y i);
       rows = record { table = s.rows.table; reports = s.rows.reports; holders = s.rows.holders; seconds = s.rows.seconds };
     } in
     let y = again_list m h u a b fs e v (all_more h w.bag new u a fs k.1) refines in
@@ -143,52 +143,52 @@ module _ (h : List ℕ) (bag : List Sent) (now : ℕ) (u a : Option Carried) whe
   answer_again None k = tt
   answer_again (Some x) k = frames_again x.answer k.1
 
-module _ (bag : List Sent) (now : ℕ) (line : HandsetLink) (s : RefinesLine bag line) where
+module _ (bag : List Sent) (now : ℕ) (link : HandsetLink) (s : RefinesLink bag link) where
   abbrev links : LinkState
-  links = line.link.links
+  links = link.near_end.links
 
-  begun_preserved : RefinesBegunDown line.handset bag (still_under_way (failed_by (begun_firing now line.link.links.begun)) line.link.under_way) (begun_fired now (begun_firing now line.link.links.begun) line.link.links.begun)
+  begun_preserved : RefinesBegunDown link.handset bag (still_under_way (failed_by (begun_firing now link.near_end.links.begun)) link.near_end.under_way) (begun_fired now (begun_firing now link.near_end.links.begun) link.near_end.links.begun)
   begun_preserved =
-      firing_cases (λ f. RefinesBegunDown line.handset bag (still_under_way (failed_by f) line.link.under_way) (begun_fired now f line.link.links.begun)) s.begun
-      (repeated line.handset bag now line.link.under_way line.link.answered line.link.links.begun s.begun) tt (begun_firing now line.link.links.begun)
+      firing_cases (λ f. RefinesBegunDown link.handset bag (still_under_way (failed_by f) link.near_end.under_way) (begun_fired now f link.near_end.links.begun)) s.begun
+      (repeated link.handset bag now link.near_end.under_way link.near_end.answered link.near_end.links.begun s.begun) tt (begun_firing now link.near_end.links.begun)
 
-  opened_preserved : RefinesOpenedDown line.handset bag line.link.answered (opened_fired now (opened_firing now line.link.links.opened) line.link.links.opened)
+  opened_preserved : RefinesOpenedDown link.handset bag link.near_end.answered (opened_fired now (opened_firing now link.near_end.links.opened) link.near_end.links.opened)
   opened_preserved =
-      firing_cases (λ f. RefinesOpenedDown line.handset bag line.link.answered (opened_fired now f line.link.links.opened)) s.opened
-      (opened_repeated line.handset bag now line.link.under_way line.link.answered line.link.links.opened s.opened) tt (opened_firing now line.link.links.opened)
+      firing_cases (λ f. RefinesOpenedDown link.handset bag link.near_end.answered (opened_fired now f link.near_end.links.opened)) s.opened
+      (opened_repeated link.handset bag now link.near_end.under_way link.near_end.answered link.near_end.links.opened s.opened) tt (opened_firing now link.near_end.links.opened)
 
-  begun_sent : AllAgain line.handset bag line.link.under_way line.link.answered (if_again (begun_firing now line.link.links.begun) (begun_frames line.link.links.begun))
+  begun_sent : AllAgain link.handset bag link.near_end.under_way link.near_end.answered (if_again (begun_firing now link.near_end.links.begun) (begun_frames link.near_end.links.begun))
   begun_sent =
-      firing_cases (λ f. AllAgain line.handset bag line.link.under_way line.link.answered (if_again f (begun_frames line.link.links.begun))) tt
-      (begun_again line.handset bag now line.link.under_way line.link.answered line.link.links.begun s.begun) tt (begun_firing now line.link.links.begun)
+      firing_cases (λ f. AllAgain link.handset bag link.near_end.under_way link.near_end.answered (if_again f (begun_frames link.near_end.links.begun))) tt
+      (begun_again link.handset bag now link.near_end.under_way link.near_end.answered link.near_end.links.begun s.begun) tt (begun_firing now link.near_end.links.begun)
 
-  answer_sent : AllAgain line.handset bag line.link.under_way line.link.answered (if_again (opened_firing now line.link.links.opened) (answer_frames line.link.links.opened))
+  answer_sent : AllAgain link.handset bag link.near_end.under_way link.near_end.answered (if_again (opened_firing now link.near_end.links.opened) (answer_frames link.near_end.links.opened))
   answer_sent =
-      firing_cases (λ f. AllAgain line.handset bag line.link.under_way line.link.answered (if_again f (answer_frames line.link.links.opened))) tt
-      (answer_again line.handset bag now line.link.under_way line.link.answered line.link.links.opened s.opened) tt (opened_firing now line.link.links.opened)
+      firing_cases (λ f. AllAgain link.handset bag link.near_end.under_way link.near_end.answered (if_again f (answer_frames link.near_end.links.opened))) tt
+      (answer_again link.handset bag now link.near_end.under_way link.near_end.answered link.near_end.links.opened s.opened) tt (opened_firing now link.near_end.links.opened)
 
--- ---- the timers of a line fire
+-- ---- the timers of a link fire
 
-line_fires : (m : ℕ) (b : World) (line : HandsetLink) (d : Draft) (w : World) (now : ℕ) → Among line d.links.lines → CentreRefines b d w
-    → StageIsSteps m b (on_links (turn_line line (heard (fires now line.link.links) line.link) d.links) d) w
-line_fires m b line d w now among s =
-    let u : Option Carried = line.link.under_way in
-    let a : Option Carried = line.link.answered in
-    let begun_ones : List (List ℕ) = if_again (begun_firing now line.link.links.begun) (begun_frames line.link.links.begun) in
-    let answers : List (List ℕ) = if_again (opened_firing now line.link.links.opened) (answer_frames line.link.links.opened) in
-    let e : Draft = record d { links = record d.links { frames = d.links.frames ++ to_handset line.handset (from_links u a (begun_ones ++ answers)) } } in
-    let f : Draft = on_links (turn_line line (heard (fires now line.link.links) line.link) d.links) d in
-    let l : RefinesLine w.bag line = s.lines line among in
+link_fires : (m : ℕ) (b : World) (link : HandsetLink) (d : Draft) (w : World) (now : ℕ) → Among link d.links.all → CentreRefines b d w
+    → StageIsSteps m b (on_links (turn_link link (heard (fires now link.near_end.links) link.near_end) d.links) d) w
+link_fires m b link d w now among s =
+    let u : Option Carried = link.near_end.under_way in
+    let a : Option Carried = link.near_end.answered in
+    let begun_ones : List (List ℕ) = if_again (begun_firing now link.near_end.links.begun) (begun_frames link.near_end.links.begun) in
+    let answers : List (List ℕ) = if_again (opened_firing now link.near_end.links.opened) (answer_frames link.near_end.links.opened) in
+    let e : Draft = record d { links = record d.links { frames = d.links.frames ++ to_handset link.handset (from_links u a (begun_ones ++ answers)) } } in
+    let f : Draft = on_links (turn_link link (heard (fires now link.near_end.links) link.near_end) d.links) d in
+    let l : RefinesLink w.bag link = s.links link among in
     steps_then m b e f w
-    (again_list m line.handset u a b (begun_ones ++ answers) d w
-    (all_both line.handset w.bag u a begun_ones answers (begun_sent w.bag now line l) (answer_sent w.bag now line l)) s)
+    (again_list m link.handset u a b (begun_ones ++ answers) d w
+    (all_both link.handset w.bag u a begun_ones answers (begun_sent w.bag now link l) (answer_sent w.bag now link l)) s)
     (λ v y.
-    let k : RefinesLine v.bag line = y.lines line among in
+    let k : RefinesLink v.bag link = y.links link among in
     steps_still m b f v (record {
       frames = y.frames;
       whole = y.whole;
-      lines = lines_with v.bag (turned (heard (fires now line.link.links) line.link) line) d.links.lines
-          (record { next = k.next; opened = opened_preserved v.bag now line k; begun = begun_preserved v.bag now line k }) y.lines;
+      links = links_with v.bag (turned (heard (fires now link.near_end.links) link.near_end) link) d.links.all
+          (record { next = k.next; opened = opened_preserved v.bag now link k; begun = begun_preserved v.bag now link k }) y.links;
       rows = y.rows;
     }))
 
@@ -202,16 +202,16 @@ timed_law : (b : World) (h : List ℕ) (side : Side) (c : Option Carried) (now :
 timed_law b h side c now o d w sound s =
     firing_cases (λ f. CentreRefines b (timed_out h (passed_up side c (failed_by f)) d) w) s s (closes_law b h c d w sound s) (begun_firing now o)
 
-fire_line_is_steps : (m : ℕ) (b : World) (line : HandsetLink) (d : Draft) (w : World) → Among line d.links.lines → SoundStore d.store → CentreRefines b d w → StageIsSteps m b (fire_line line d) w
-fire_line_is_steps m b line d w among sound s =
+fire_link_is_steps : (m : ℕ) (b : World) (link : HandsetLink) (d : Draft) (w : World) → Among link d.links.all → SoundStore d.store → CentreRefines b d w → StageIsSteps m b (fire_link link d) w
+fire_link_is_steps m b link d w among sound s =
     let now : ℕ = d.store.moment in
-    let z : Step = fires now line.link.links in
-    let e : Draft = on_links (turn_line line (heard z line.link) d.links) d in
-    subst (λ (x : Step). StageIsSteps m b (timed_out line.handset (heard x line.link).out.up (on_links (turn_line line (heard x line.link) d.links) d)) w) (sym (fire_is now line.link.links))
-    (steps_then m b e (timed_out line.handset (heard z line.link).out.up e) w (line_fires m b line d w now among s)
-    (λ v y. steps_still m b (timed_out line.handset (heard z line.link).out.up e) v (timed_law b line.handset line.link.side line.link.under_way now line.link.links.begun e v sound y)))
+    let z : Step = fires now link.near_end.links in
+    let e : Draft = on_links (turn_link link (heard z link.near_end) d.links) d in
+    subst (λ (x : Step). StageIsSteps m b (timed_out link.handset (heard x link.near_end).out.up (on_links (turn_link link (heard x link.near_end) d.links) d)) w) (sym (fire_is now link.near_end.links))
+    (steps_then m b e (timed_out link.handset (heard z link.near_end).out.up e) w (link_fires m b link d w now among s)
+    (λ v y. steps_still m b (timed_out link.handset (heard z link.near_end).out.up e) v (timed_law b link.handset link.near_end.side link.near_end.under_way now link.near_end.links.begun e v sound y)))
 
--- ---- one line after another
+-- ---- one link after another
 
 abbrev Sound : Draft → Type 0
 Sound d = SoundStore d.store
@@ -228,14 +228,14 @@ mentioned_sound hs d k = fire_mentioned_says Sound ended_sound (λ links e kept.
 pub fired_sound : (d : Draft) → SoundStore d.store → SoundStore (fired d).store
 fired_sound d k = fired_says Sound ended_sound (λ links e kept. kept) d k
 
-fire_at_is_steps : (m : ℕ) (b : World) (number : List ℕ) (o : Option HandsetLink) (d : Draft) (w : World) → line_at number d.links.lines ≡ o → SoundStore d.store → CentreRefines b d w → StageIsSteps m b (fire_at o d) w
+fire_at_is_steps : (m : ℕ) (b : World) (number : List ℕ) (o : Option HandsetLink) (d : Draft) (w : World) → link_at number d.links.all ≡ o → SoundStore d.store → CentreRefines b d w → StageIsSteps m b (fire_at o d) w
 fire_at_is_steps m b number None d w e sound s = steps_still m b d w s
-fire_at_is_steps m b number (Some line) d w e sound s = fire_line_is_steps m b line d w (line_found number line d.links.lines e).0 sound s
+fire_at_is_steps m b number (Some link) d w e sound s = fire_link_is_steps m b link d w (link_found number link d.links.all e).0 sound s
 
 mentioned_is_steps : (m : ℕ) (b : World) (hs : List HandsetRow) (d : Draft) (w : World) → SoundStore d.store → CentreRefines b d w → StageIsSteps m b (fire_mentioned hs d) w
 mentioned_is_steps m b [] d w sound s = steps_still m b d w s
 mentioned_is_steps m b (h ∷ hs) d w sound s =
-    let o : Option HandsetLink = line_at h.number d.links.lines in
+    let o : Option HandsetLink = link_at h.number d.links.all in
     let e : Draft = fire_at o d in
     steps_then m b e (fire_mentioned hs e) w (fire_at_is_steps m b h.number o d w refl sound s) (λ v y. mentioned_is_steps m b hs e v (at_sound o d sound) y)
 
@@ -243,7 +243,7 @@ others_is_steps : (m : ℕ) (b : World) (hs : List HandsetRow) (ls : List Handse
 others_is_steps m b hs [] d w sound s = steps_still m b d w s
 others_is_steps m b hs (l ∷ ls) d w sound s =
     let known : Bool = is_mentioned (handset_at l.handset hs) in
-    let o : Option HandsetLink = line_at l.handset d.links.lines in
+    let o : Option HandsetLink = link_at l.handset d.links.all in
     let e : Draft = if known then d else fire_at o d in
     let one = cond_both known d (fire_at o d) (λ (x : Draft). StageIsSteps m b x w × SoundStore x.store) (λ t. (steps_still m b d w s, sound)) (λ t. (fire_at_is_steps m b l.handset o d w refl sound s, at_sound o d sound)) in
     steps_then m b e (fire_others hs ls e) w one.0 (λ v y. others_is_steps m b hs ls e v one.1 y)
@@ -252,7 +252,7 @@ pub fired_goes : (m : ℕ) (b : World) (d : Draft) (w : World) → SoundStore d.
 fired_goes m b d w sound s =
     let hs : List HandsetRow = handsets_in d.store in
     let e : Draft = fire_mentioned hs d in
-    steps_then m b e (fired d) w (mentioned_is_steps m b hs d w sound s) (λ v y. others_is_steps m b hs d.links.lines e v (mentioned_sound hs d sound) y)
+    steps_then m b e (fired d) w (mentioned_is_steps m b hs d w sound s) (λ v y. others_is_steps m b hs d.links.all e v (mentioned_sound hs d sound) y)
 
 -- ---- links that were up come up
 
@@ -260,6 +260,6 @@ pub raise_all_refines : (b : World) (ls : List HandsetLink) (d : Draft) (w : Wor
 raise_all_refines b [] d w sound s = s
 raise_all_refines b (l ∷ ls) d w sound s =
     let one = cond_both l.is_awaited (raise l.handset d) d (λ (e : Draft). CentreRefines b e w × SoundStore e.store)
-    (λ t. (raise_law b d w sound s l.handset, due_now_steady SoundStore sound_still (line_of l.handset d.links.lines).handset d.store sound))
+    (λ t. (raise_law b d w sound s l.handset, due_now_steady SoundStore sound_still (link_of l.handset d.links.all).handset d.store sound))
     (λ t. (s, sound)) in
     raise_all_refines b ls (if l.is_awaited then raise l.handset d else d) w one.1 one.0

@@ -12,7 +12,7 @@ use Rattle.sms_centre_rows.specs.reports.Reports.{report_of}
 use Rattle.sms_centre_rows.specs.declared.reports.report.ReportRow.{ReportRow}
 use Rattle.sms_rows.specs.table.Keys.{pair_key}
 use Rattle.sms_rows.specs.table.Table.{row_at}
-use Rattle.sms_centre_rows.specs.waiting.Links.{line_of, lowered, put_line, raised as raised_line}
+use Rattle.sms_centre_rows.specs.waiting.Links.{link_of, lowered, put_link, raised as raised_link}
 use Rattle.sms_centre_rows.specs.waiting.Trying.{due_at, tried}
 use Rattle.sms_centre_rows.specs.declared.waiting.handset_link.HandsetLink.{HandsetLink}
 use Rattle.sms_centre_rows.specs.declared.waiting.queued_part.QueuedPart.{QueuedPart}
@@ -28,8 +28,8 @@ use Rattle.sms_centre_spec.specs.declared.verdict.Verdict.{Verdict}
 use Rattle.sms_centre_spec.specs.declared.verdict.Verdict.TheVariants.{Again, Late}
 use Rattle.sms_world_model.specs.World.{World}
 use Rattle.sms_world.specs.centres_refine_the_world.CentreRefinement.{CentreRefines, StoreRefines}
-use Rattle.sms_world.specs.centres_refine_the_world.RefinesLines.{RefinesLine}
-use Rattle.sms_world.proofs.centres_refine_the_world.Offers.{line_refines, lines_with}
+use Rattle.sms_world.specs.centres_refine_the_world.RefinesLinks.{RefinesLink}
+use Rattle.sms_world.proofs.centres_refine_the_world.Offers.{link_refines, links_with}
 use Rattle.sms_world.proofs.centres_refine_the_world.Unseen.{part_far_unseen, report_far_unseen}
 
 -- a sound store that sees the world
@@ -109,13 +109,13 @@ module _ (w : World) where
 module _ (b : World) (d : Draft) (w : World) (sound : SoundStore d.store) (s : CentreRefines b d w) where
   pub raise_law : (handset : List ℕ) → CentreRefines b (raise handset d) w
   raise_law handset =
-      let line : HandsetLink = line_of handset d.links.lines in
-      let l : RefinesLine w.bag line = line_refines w.bag handset d.links.lines s.lines in
+      let link : HandsetLink = link_of handset d.links.all in
+      let l : RefinesLink w.bag link = link_refines w.bag handset d.links.all s.links in
       record {
         frames = s.frames;
         whole = s.whole;
-        lines = lines_with w.bag (raised_line line) d.links.lines (record { next = l.next; opened = l.opened; begun = l.begun }) s.lines;
-        rows = (due_now_both w line.handset d.store (sound, s.rows)).1;
+        links = links_with w.bag (raised_link link) d.links.all (record { next = l.next; opened = l.opened; begun = l.begun }) s.links;
+        rows = (due_now_both w link.handset d.store (sound, s.rows)).1;
       }
 
 -- a transfer that is lost is tried again, if it still waits
@@ -123,15 +123,15 @@ pub lost_law : (b : World) (handset : List ℕ) (o : Option Carried) (d : Draft)
 lost_law b handset None d w sound s = s
 lost_law b handset (Some t) d w sound s =
     cond_both (is_open t.tag d.store) Again Late (λ (v : Verdict). CentreRefines b (ended_with v handset t.tag d) w)
-    (λ e. record { frames = s.frames; whole = s.whole; lines = s.lines; rows = (again_both w t.tag d.store (sound, s.rows)).1 })
-    (λ e. record { frames = s.frames; whole = s.whole; lines = s.lines; rows = (late_both w t.tag d.store (sound, s.rows)).1 })
+    (λ e. record { frames = s.frames; whole = s.whole; links = s.links; rows = (again_both w t.tag d.store (sound, s.rows)).1 })
+    (λ e. record { frames = s.frames; whole = s.whole; links = s.links; rows = (late_both w t.tag d.store (sound, s.rows)).1 })
 
 pub lower_law : (b : World) (d : Draft) (w : World) (handset : List ℕ) → SoundStore d.store → CentreRefines b d w → CentreRefines b (lower handset d) w
 lower_law b d w handset sound s =
-    let line : HandsetLink = line_of handset d.links.lines in
-    lost_law b line.handset line.link.under_way (on_links (put_line (lowered line) d.links) d) w sound (record {
+    let link : HandsetLink = link_of handset d.links.all in
+    lost_law b link.handset link.near_end.under_way (on_links (put_link (lowered link) d.links) d) w sound (record {
       frames = s.frames;
       whole = s.whole;
-      lines = lines_with w.bag (lowered line) d.links.lines (record { next = (let l : 0 < 7 = omega arith in l); opened = tt; begun = tt }) s.lines;
+      links = links_with w.bag (lowered link) d.links.all (record { next = (let l : 0 < 7 = omega arith in l); opened = tt; begun = tt }) s.links;
       rows = s.rows;
     })

@@ -23,13 +23,13 @@ use Rattle.sms_relay.specs.declared.frame.Rp.TheVariants.{DataUnit}
 use Rattle.sms_tpdu.proofs.MoreBits.{more_messages_same}
 use Rattle.sms_tpdu.specs.AddressGrammar.{relay_address}
 use Rattle.sms_tpdu.specs.MoreMessages.{with_more_messages}
-use Rattle.sms_centre_rows.specs.waiting.Links.{Links, is_ready, line_of, or_new_line, line_at, read_for, to_handset, turn_line, turned as line_turned, with_line}
+use Rattle.sms_centre_rows.specs.waiting.Links.{Links, is_ready, link_of, or_new_link_to, link_at, read_for, to_handset, turn_link, turned as link_turned, with_link}
 use Rattle.sms_centre_rows.specs.waiting.Waiting.{next, waits_beside}
 use Rattle.sms_centre_rows.specs.declared.waiting.handset.HandsetRow.{HandsetRow}
 use Rattle.sms_centre_rows.specs.declared.waiting.handset_link.HandsetLink.{HandsetLink}
 use Rattle.sms_centre_rows.specs.declared.waiting.handset_link.Sent.{Sent as SentRow}
 use Rattle.sms_centre_rows.specs.declared.waiting.queued_part.QueuedPart.{QueuedPart}
-use Rattle.sms_centre_spec.proofs.SoundLinks.{among_with, line_found}
+use Rattle.sms_centre_spec.proofs.SoundLinks.{among_with, link_found}
 use Rattle.sms_centre_spec.proofs.SoundStores.{SoundStore}
 use Rattle.sms_centre_spec.proofs.SoundOffers.{next_waits}
 use Rattle.sms_centre_spec.specs.Draft.{Draft, handsets_in, waiting_in}
@@ -48,9 +48,9 @@ use Rattle.sms_world_model.specs.World.{Carried as Carried_frame, Down, Frame, A
 use Rattle.sms_world.specs.centres_refine_the_world.CentreLaws.{AllOffer}
 use Rattle.sms_world.specs.centres_refine_the_world.CentreRefinement.{CentreRefines}
 use Rattle.sms_world.specs.centres_refine_the_world.FramesOut.{AreWholeDown, stacked_down}
-use Rattle.sms_world.specs.centres_refine_the_world.RefinesLines.{RefinesLine, RefinesLines}
+use Rattle.sms_world.specs.centres_refine_the_world.RefinesLinks.{RefinesLink, RefinesLinks}
 use Rattle.sms_world.proofs.centres_refine_the_world.QueuedParts.{IsOffered, allocation_at, queued_offered}
-use Rattle.sms_world.proofs.centres_refine_the_world.Staying.{line_still}
+use Rattle.sms_world.proofs.centres_refine_the_world.Staying.{link_still}
 
 -- ---- octets
 
@@ -61,7 +61,7 @@ telling_long : (more : Bool) (tpdu : List ℕ) → length (with_more_messages mo
 telling_long more [] = refl
 telling_long more (x ∷ xs) = refl
 
--- ---- frames and lines
+-- ---- frames and links
 
 pub stacked_both : (fs gs : List SentRow) (bag : List Sent) → stacked_down (fs ++ gs) bag ≡ stacked_down gs (stacked_down fs bag)
 stacked_both [] gs bag = refl
@@ -71,25 +71,25 @@ pub whole_both : (fs gs : List SentRow) → AreWholeDown fs → AreWholeDown gs 
 whole_both [] gs a b = b
 whole_both (f ∷ fs) gs a b = (a.0, whole_both fs gs a.1 b)
 
-pub lines_with : (bag : List Sent) (line : HandsetLink) (ls : List HandsetLink) → RefinesLine bag line → RefinesLines bag ls → RefinesLines bag (with_line line ls)
-lines_with bag line ls s refines x i =
-    ⊎_elim (λ (e : x ≡ line). subst (λ (z : HandsetLink). RefinesLine bag z) (sym e) s) (λ (a : Among x ls). refines x a) (among_with x line ls i)
+pub links_with : (bag : List Sent) (link : HandsetLink) (ls : List HandsetLink) → RefinesLink bag link → RefinesLinks bag ls → RefinesLinks bag (with_link link ls)
+links_with bag link ls s refines x i =
+    ⊎_elim (λ (e : x ≡ link). subst (λ (z : HandsetLink). RefinesLink bag z) (sym e) s) (λ (a : Among x ls). refines x a) (among_with x link ls i)
 
-pub line_refines : (bag : List Sent) (number : List ℕ) (ls : List HandsetLink) → RefinesLines bag ls → RefinesLine bag (line_of number ls)
-line_refines bag number ls refines = at (line_at number ls) refl
+pub link_refines : (bag : List Sent) (number : List ℕ) (ls : List HandsetLink) → RefinesLinks bag ls → RefinesLink bag (link_of number ls)
+link_refines bag number ls refines = at (link_at number ls) refl
   where
-    at : (o : Option HandsetLink) → line_at number ls ≡ o → RefinesLine bag (or_new_line number o)
+    at : (o : Option HandsetLink) → link_at number ls ≡ o → RefinesLink bag (or_new_link_to number o)
     at None e = record { next = (let l : 0 < 7 = omega arith in l); opened = tt; begun = tt }
-    at (Some l) e = refines l (line_found number l ls e).0
+    at (Some l) e = refines l (link_found number l ls e).0
 
 -- ---- a transaction begins
 
 abbrev pub Offers : ℕ → World → Draft → World → Type 0
 Offers m b new w = (steps : List WorldStep) × (AllOffer steps × Run w (items m false steps) × CentreRefines b new (end w (items m false steps)))
 
-module _ (m : ℕ) (b : World) (d : Draft) (w : World) (sound : SoundStore d.store) (s : CentreRefines b d w) (line : HandsetLink) (refines : RefinesLine w.bag line) where
-  module _ (l : QueuedPart) (more : Bool) (read : List ℕ) (idle : is_busy line.link.links ≡ false) (i : IsOffered line.handset l.reference w (holder_of l) (tpdu_of l d.store)) where
-    offered : Offers m b (record d { links = turn_line line (begun d.store.moment l.reference (holder_of l) (unit_of l more d.store) line.link) (record d.links { read = read }) }) w
+module _ (m : ℕ) (b : World) (d : Draft) (w : World) (sound : SoundStore d.store) (s : CentreRefines b d w) (link : HandsetLink) (refines : RefinesLink w.bag link) where
+  module _ (l : QueuedPart) (more : Bool) (read : List ℕ) (idle : is_busy link.near_end.links ≡ false) (i : IsOffered link.handset l.reference w (holder_of l) (tpdu_of l d.store)) where
+    offered : Offers m b (record d { links = turn_link link (begun d.store.moment l.reference (holder_of l) (unit_of l more d.store) link.near_end) (record d.links { read = read }) }) w
     offered =
         let tpdu : List ℕ = with_more_messages more (tpdu_of l d.store) in
         let centre : List ℕ = relay_address d.store.setup.centre in
@@ -100,7 +100,7 @@ module _ (m : ℕ) (b : World) (d : Draft) (w : World) (sound : SoundStore d.sto
         let told : down_at unit ≡ Ok (DataUnit l.reference centre tpdu) = down_read l.reference centre tpdu is long in
         let size = down_long l.reference centre tpdu in
         let short : length centre ≤ 11 = is.1 in
-        let n = line.link.links.next_identifier in
+        let n = link.near_end.links.next_identifier in
         let octets : List ℕ = spelled (CpData (in_transaction FromOriginator n) unit) in
         let framed = data_framed FromOriginator n unit refines.next (omega (arith, size)) (omega (arith, size, short, long)) in
         let carries : CarriesDown octets c = record {
@@ -110,67 +110,67 @@ module _ (m : ℕ) (b : World) (d : Draft) (w : World) (sound : SoundStore d.sto
           flag = refl;
           unit_is = subst (λ (z : Result Rp RelayFault). IsOfKindDown Data l.reference z) (sym told) refl;
         } in
-        let u : Frame = record { number = length w.bag + 1; handset = line.handset; line = Down; kind = Data; reference = l.reference; tpdu = tpdu; tag = holder_of l } in
+        let u : Frame = record { number = length w.bag + 1; handset = link.handset; line = Down; kind = Data; reference = l.reference; tpdu = tpdu; tag = holder_of l } in
         let x : Sent = Carried_frame u in
-        let q : sent_down line.handset (length w.bag + 1) octets (Some c) ≡ x =
+        let q : sent_down link.handset (length w.bag + 1) octets (Some c) ≡ x =
         ap (λ (z : List ℕ). Carried_frame (record u { tpdu = z }))
         (ap (λ (z : Result Cp CpFault). frame_tpdu_down z) (cp_again octets (CpData (in_transaction FromOriginator n) unit) framed) ∙ ap (λ (z : Result Rp RelayFault). unit_tpdu z) told) in
-        let f : SentRow = record { handset = line.handset; frame = record { octets = octets; carried = Some c; is_copy = false } } in
-        let g : Allocation = allocation_at line.handset l.reference (holder_of l) (tpdu_of l d.store) i.moment in
+        let f : SentRow = record { handset = link.handset; frame = record { octets = octets; carried = Some c; is_copy = false } } in
+        let g : Allocation = allocation_at link.handset l.reference (holder_of l) (tpdu_of l d.store) i.moment in
         let v : World = record w { bag = x ∷ w.bag } in
         let after_turn : Step → Draft = λ (z : Step). record d {
           links = record d.links {
-            lines = with_line (line_turned (turn_started c z line.link) line) d.links.lines;
-            frames = d.links.frames ++ to_handset line.handset (carrying (Some c) z.out.frames);
+            links = with_link (link_turned (turn_started c z link.near_end) link) d.links.all;
+            frames = d.links.frames ++ to_handset link.handset (carrying (Some c) z.out.frames);
             read = read;
           };
         } in
-        let e : started d.store.moment octets line.link.links ≡ begin_step d.store.moment unit line.link.links = sym (begin_is d.store.moment unit line.link.links idle) in
+        let e : started d.store.moment octets link.near_end.links ≡ begin_step d.store.moment unit link.near_end.links = sym (begin_is d.store.moment unit link.near_end.links idle) in
         let grown : (y : Sent) → Among y w.bag → Among y v.bag = λ y a. inr a in
-        let old : RefinesLine v.bag line = line_still w.bag v.bag grown line refines in
-        let z : CentreRefines b (after_turn (started d.store.moment octets line.link.links)) v = record {
-          frames = ap (λ (y : Sent). y ∷ w.bag) (sym q) ∙ ap (λ (bag : List Sent). sent_down line.handset (length bag + 1) octets (Some c) ∷ bag) s.frames ∙ sym (stacked_both d.links.frames (f ∷ []) b.bag);
+        let old : RefinesLink v.bag link = link_still w.bag v.bag grown link refines in
+        let z : CentreRefines b (after_turn (started d.store.moment octets link.near_end.links)) v = record {
+          frames = ap (λ (y : Sent). y ∷ w.bag) (sym q) ∙ ap (λ (bag : List Sent). sent_down link.handset (length bag + 1) octets (Some c) ∷ bag) s.frames ∙ sym (stacked_both d.links.frames (f ∷ []) b.bag);
           whole = whole_both d.links.frames (f ∷ []) s.whole (carries, tt);
-          lines = lines_with v.bag (line_turned (turn_started c (started d.store.moment octets line.link.links) line.link) line) d.links.lines
+          links = links_with v.bag (link_turned (turn_started c (started d.store.moment octets link.near_end.links) link.near_end) link) d.links.all
               (record { next = next_below n; opened = old.opened; begun = (c, (refl, (carries, refl, (length w.bag + 1, inl q)), i.numbered)) })
-              (λ y a. line_still w.bag v.bag grown y (s.lines y a));
+              (λ y a. link_still w.bag v.bag grown y (s.links y a));
           rows = record { table = s.rows.table; reports = s.rows.reports; holders = s.rows.holders; seconds = s.rows.seconds };
         } in (
           Offer g tpdu ∷ [],
           (
             ((g, tpdu, refl), tt),
             (((i.given, i.unanswered), more_messages_same more (tpdu_of l d.store)), tt),
-            subst (λ (t : Turn). CentreRefines b (record d { links = turn_line line t (record d.links { read = read }) }) v)
-                (sym (cond-false (is_busy line.link.links) (still line.link) (turn_started c (begin_step d.store.moment unit line.link.links) line.link) idle))
+            subst (λ (t : Turn). CentreRefines b (record d { links = turn_link link t (record d.links { read = read }) }) v)
+                (sym (cond-false (is_busy link.near_end.links) (still link.near_end) (turn_started c (begin_step d.store.moment unit link.near_end.links) link.near_end) idle))
                 (subst (λ (t : Step). CentreRefines b (after_turn t) v) e z),
           ),
         )
 
-  queued_law : (l : QueuedPart) (more : Bool) → is_busy line.link.links ≡ false → IsOffered line.handset l.reference w (holder_of l) (tpdu_of l d.store)
-      → Offers m b (record d { links = turn_line line (begun d.store.moment l.reference (holder_of l) (unit_of l more d.store) line.link) (read_of l d.store d.links) }) w
+  queued_law : (l : QueuedPart) (more : Bool) → is_busy link.near_end.links ≡ false → IsOffered link.handset l.reference w (holder_of l) (tpdu_of l d.store)
+      → Offers m b (record d { links = turn_link link (begun d.store.moment l.reference (holder_of l) (unit_of l more d.store) link.near_end) (read_of l d.store d.links) }) w
   queued_law l more idle i =
       cond_both (is_made l d.store) d.links (read_for (queued_key l) d.links)
-      (λ (a : Links). Offers m b (record d { links = turn_line line (begun d.store.moment l.reference (holder_of l) (unit_of l more d.store) line.link) a }) w)
+      (λ (a : Links). Offers m b (record d { links = turn_link link (begun d.store.moment l.reference (holder_of l) (unit_of l more d.store) link.near_end) a }) w)
       (λ t. offered l more d.links.read idle i) (λ t. offered l more (d.links.read ++ queued_key l ∷ []) idle i)
 
-  next_law : is_busy line.link.links ≡ false → (o : Option QueuedPart) → next d.store.moment (waiting_in line.handset d.store) ≡ o
-      → Offers m b (record d { links = offer_queued line (waiting_in line.handset d.store) o d.store d.links }) w
+  next_law : is_busy link.near_end.links ≡ false → (o : Option QueuedPart) → next d.store.moment (waiting_in link.handset d.store) ≡ o
+      → Offers m b (record d { links = offer_queued link (waiting_in link.handset d.store) o d.store d.links }) w
   next_law idle None e = ([], (tt, tt, s))
   next_law idle (Some l) e =
-      queued_law l (waits_beside d.store.moment l (waiting_in line.handset d.store)) idle
-      (queued_offered line.handset l d.store w sound s.rows (next_waits d.store.moment l (waiting_in line.handset d.store) e))
+      queued_law l (waits_beside d.store.moment l (waiting_in link.handset d.store)) idle
+      (queued_offered link.handset l d.store w sound s.rows (next_waits d.store.moment l (waiting_in link.handset d.store) e))
 
-  is_idle : is_ready line ≡ true → is_busy line.link.links ≡ false
-  is_idle t = not_false (is_busy line.link.links) (and_parts (not line.is_full) (not (is_busy line.link.links)) (and_parts line.is_up (not line.is_full && not (is_busy line.link.links)) t).1).1
+  is_idle : is_ready link ≡ true → is_busy link.near_end.links ≡ false
+  is_idle t = not_false (is_busy link.near_end.links) (and_parts (not link.is_full) (not (is_busy link.near_end.links)) (and_parts link.is_up (not link.is_full && not (is_busy link.near_end.links)) t).1).1
     where
       not_false : (x : Bool) → not x ≡ true → x ≡ false
       not_false true e = absurd cc
       not_false false e = refl
 
-  line_law : Offers m b (record d { links = offer_on line d.store d.links }) w
-  line_law =
-      cond_both (is_ready line) (offer_among line (waiting_in line.handset d.store) d.store d.links) d.links (λ (a : Links). Offers m b (record d { links = a }) w)
-      (λ t. next_law (is_idle t) (next d.store.moment (waiting_in line.handset d.store)) refl) (λ t. ([], (tt, tt, s)))
+  link_law : Offers m b (record d { links = offer_on link d.store d.links }) w
+  link_law =
+      cond_both (is_ready link) (offer_among link (waiting_in link.handset d.store) d.store d.links) d.links (λ (a : Links). Offers m b (record d { links = a }) w)
+      (λ t. next_law (is_idle t) (next d.store.moment (waiting_in link.handset d.store)) refl) (λ t. ([], (tt, tt, s)))
 
 -- ---- one after another
 
@@ -188,9 +188,9 @@ all_law m b [] d w sound s = ([], (tt, tt, s))
 all_law m b (h ∷ hs) d w sound s =
     let e : Draft = record d { links = offer_to h.number d.store d.links } in
     offers_then m b e (record d { links = offer_all (h ∷ hs) d.store d.links }) w
-    (line_law m b d w sound s (line_of h.number d.links.lines) (line_refines w.bag h.number d.links.lines s.lines))
+    (link_law m b d w sound s (link_of h.number d.links.all) (link_refines w.bag h.number d.links.all s.links))
     (λ v k. all_law m b hs e v sound k)
 
 -- what follows every event
 pub follow_law : (m : ℕ) (b : World) (d : Draft) (w : World) → SoundStore d.store → CentreRefines b d w → Offers m b (follow d) w
-follow_law m b d w sound s = all_law m b (handsets_in d.store) (send d) w sound (record { frames = s.frames; whole = s.whole; lines = s.lines; rows = s.rows })
+follow_law m b d w sound s = all_law m b (handsets_in d.store) (send d) w sound (record { frames = s.frames; whole = s.whole; links = s.links; rows = s.rows })

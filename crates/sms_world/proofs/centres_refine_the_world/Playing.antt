@@ -14,7 +14,7 @@ use Rattle.sms_base.specs.declared.final_state.FinalState.{FinalState}
 use Rattle.sms_world_model.specs.World.{Sent, World}
 use Rattle.sms_world.specs.centres_refine_the_world.CentreLaws.{AllOffer}
 use Rattle.sms_world.specs.centres_refine_the_world.CentreRefinement.{CentreRefines, StoreRefines}
-use Rattle.sms_world.specs.centres_refine_the_world.RefinesLines.{RefinesLines}
+use Rattle.sms_world.specs.centres_refine_the_world.RefinesLinks.{RefinesLinks}
 use Rattle.sms_world.proofs.centres_refine_the_world.Ending.{AllReportEnds}
 use Rattle.sms_world.proofs.centres_refine_the_world.Offers.{follow_law}
 
@@ -59,13 +59,13 @@ pub store_is_reached : (b : World) (e : Store) (d : Draft) (w v : World) → Cen
 store_is_reached b e d w v s rows bag = record {
   frames = bag ∙ s.frames;
   whole = s.whole;
-  lines = subst (λ (x : List Sent). RefinesLines x d.links.lines) (sym bag) s.lines;
+  links = subst (λ (x : List Sent). RefinesLinks x d.links.all) (sym bag) s.links;
   rows = rows;
 }
 
 -- an answer is not seen
 pub answer_refines : (b : World) (a : CentreAnswer) (d : Draft) (w : World) → CentreRefines b d w → CentreRefines b (answer_with a d) w
-answer_refines b a d w s = record { frames = s.frames; whole = s.whole; lines = s.lines; rows = s.rows }
+answer_refines b a d w s = record { frames = s.frames; whole = s.whole; links = s.links; rows = s.rows }
 
 -- receipts and offers follow
 pub acts_lead : (event : Event) (may : (x : Step) → Follows x → MayFollow event x) (m : ℕ) (w : World) (d : Draft) → Acts event m w d → SoundStore d.store

@@ -36,7 +36,7 @@ use Rattle.sms_world_model.specs.World.{Allocation, IsUnanswered, Pending, IsRec
 use Rattle.sms_world.specs.centres_refine_the_world.CentreRefinement.{StoreRefines}
 use Rattle.sms_world.proofs.centres_refine_the_world.ByOctets.{by_octet_is}
 use Rattle.sms_world.specs.centres_refine_the_world.RefinesGiven.{given_part, given_report}
-use Rattle.sms_world.specs.centres_refine_the_world.RefinesLines.{IsNumbered}
+use Rattle.sms_world.specs.centres_refine_the_world.RefinesLinks.{IsNumbered}
 use Rattle.sms_world.specs.headline.SeenWorld.{IsStateOf, PartSeen, part_seen, parts_by}
 use Rattle.sms_world.specs.centres_refine_the_world.RefinesReports.{ReportSeen, report_seen}
 

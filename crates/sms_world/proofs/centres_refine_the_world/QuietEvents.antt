@@ -21,11 +21,11 @@ use Rattle.sms_world.proofs.centres_refine_the_world.Offers.{follow_law}
 
 -- an answer alone
 queried_refines : (b : World) (m : Option MessageRow) (d : Draft) (w : World) → CentreRefines b d w → CentreRefines b (queried m d) w
-queried_refines b None d w s = record { frames = s.frames; whole = s.whole; lines = s.lines; rows = s.rows }
-queried_refines b (Some m) d w s = record { frames = s.frames; whole = s.whole; lines = s.lines; rows = s.rows }
+queried_refines b None d w s = record { frames = s.frames; whole = s.whole; links = s.links; rows = s.rows }
+queried_refines b (Some m) d w s = record { frames = s.frames; whole = s.whole; links = s.links; rows = s.rows }
 
 query_refines : (b : World) (a : Option CentreAccount) (q : QuerySm) (d : Draft) (w : World) → CentreRefines b d w → CentreRefines b (query_by a q d) w
-query_refines b None q d w s = record { frames = s.frames; whole = s.whole; lines = s.lines; rows = s.rows }
+query_refines b None q d w s = record { frames = s.frames; whole = s.whole; links = s.links; rows = s.rows }
 query_refines b (Some a) q d w s = queried_refines b _ d w s
 
 pub start : (c : Core) → IsSoundCore c → SoundStore (draft_of c).store
@@ -37,9 +37,9 @@ query_event m account q c w sound s =
     follow_law m w (query account q d) w (event_after (Query account q) c sound tt tt).store.0 (query_refines w (account_at account c.rows.setup.accounts) q d w s)
 
 retried_refines : (b : World) (o : Option MessageRow) (d : Draft) (w : World) → SoundStore d.store → CentreRefines b d w → CentreRefines b (retried o d) w
-retried_refines b None d w sound s = record { frames = s.frames; whole = s.whole; lines = s.lines; rows = s.rows }
+retried_refines b None d w sound s = record { frames = s.frames; whole = s.whole; links = s.links; rows = s.rows }
 retried_refines b (Some m) d w sound s =
-    record { frames = s.frames; whole = s.whole; lines = s.lines; rows = (all_due_both w (parts_among m.id (waiting_in m.handset d.store)) d.store (sound, s.rows)).1 }
+    record { frames = s.frames; whole = s.whole; links = s.links; rows = (all_due_both w (parts_among m.id (waiting_in m.handset d.store)) d.store (sound, s.rows)).1 }
 
 pub retry_event : RetryLaw
 retry_event m id c w sound s =

@@ -55,7 +55,7 @@ bound_refines b session receives None d w sound s = s
 bound_refines b session receives (Some account) d w sound s = record {
   frames = s.frames;
   whole = s.whole;
-  lines = s.lines;
+  links = s.links;
   rows = cond_both receives (due_for account.name d.store) d.store (λ (e : Store). StoreRefines e w) (λ t. (due_for_both w account.name d.store (sound, s.rows)).1) (λ t. s.rows);
 }
 

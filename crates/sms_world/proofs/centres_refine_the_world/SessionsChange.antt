@@ -53,7 +53,7 @@ module _ (w : World) where
 pub unbound_refines : (b : World) (o : Option Session) (d : Draft) (w : World) → SoundStore d.store → CentreRefines b d w → CentreRefines b (unbound_from o d) w
 unbound_refines b None d w sound s = s
 unbound_refines b (Some session) d w sound s =
-    record { frames = s.frames; whole = s.whole; lines = s.lines; rows = (all_tried_both w d.store.moment session.unanswered d.store.reports d.store (sound, s.rows)).1 }
+    record { frames = s.frames; whole = s.whole; links = s.links; rows = (all_tried_both w d.store.moment session.unanswered d.store.reports d.store (sound, s.rows)).1 }
 
 pub unbound_event : UnboundLaw
 unbound_event m session c w sound s =
@@ -71,7 +71,7 @@ answered_refines b id accepted (Some session) d w f sound s =
     (λ t. record {
       frames = s.frames;
       whole = s.whole;
-      lines = s.lines;
+      links = s.links;
       rows = (ended_both w accepted d.store.moment id (report_of id (reports_in d.store)) d.store.reports d.store (sound, s.rows) refl
           (λ e r q. f session refl id (among_so id session.unanswered t) r q)).1;
     })

@@ -21,7 +21,7 @@ use Rattle.sms_world_model.specs.World.{Allocation, Message, ReceiptOf, Sent, Wo
 use Rattle.sms_world_model.proofs.Apart.{handset_leaves_centre}
 use Rattle.sms_world.specs.centres_refine_the_world.CentreLaws.{HandsetLaw, NextLaw}
 use Rattle.sms_world.specs.centres_refine_the_world.CentreRefinement.{RowsSee}
-use Rattle.sms_world.specs.centres_refine_the_world.RefinesLines.{RefinesAnswerDown, RefinesBegunDown, RefinesLine, RefinesOpenedDown, WasSentDown}
+use Rattle.sms_world.specs.centres_refine_the_world.RefinesLinks.{RefinesAnswerDown, RefinesBegunDown, RefinesLink, RefinesOpenedDown, WasSentDown}
 use Rattle.sms_world.proofs.handset_runs_are_steps.Others.{items_grow}
 
 -- ---- frames only come
@@ -42,11 +42,11 @@ module _ (bag more : List Sent) (grown : (x : Sent) → Among x bag → Among x 
   begun_still under_way None s = tt
   begun_still under_way (Some b) s = (s.0, (s.1.0, sent_still FromOriginator b.frame s.0 s.1.1, s.1.2))
 
-pub line_still : (bag more : List Sent) → ((x : Sent) → Among x bag → Among x more) → (line : HandsetLink) → RefinesLine bag line → RefinesLine more line
-line_still bag more grown line s = record {
+pub link_still : (bag more : List Sent) → ((x : Sent) → Among x bag → Among x more) → (link : HandsetLink) → RefinesLink bag link → RefinesLink more link
+link_still bag more grown link s = record {
   next = s.next;
-  opened = opened_still bag more grown line.handset line.link.answered line.link.links.opened s.opened;
-  begun = begun_still bag more grown line.handset line.link.under_way line.link.links.begun s.begun;
+  opened = opened_still bag more grown link.handset link.near_end.answered link.near_end.links.opened s.opened;
+  begun = begun_still bag more grown link.handset link.near_end.under_way link.near_end.links.begun s.begun;
 }
 
 -- ---- rows see what is left
@@ -78,9 +78,9 @@ handset_stays h c w m b steps o s =
     record {
       frames = refl;
       whole = tt;
-      lines = λ line i. line_still w.bag v.bag (items_grow w m b steps) line (s.lines line i);
+      links = λ link i. link_still w.bag v.bag (items_grow w m b steps) link (s.links link i);
       rows = rows_still (draft_of c) w v (handset_leaves_centre h w m b steps o) s.rows;
     }
 
 pub next_refines : NextLaw
-next_refines b d w s = record { frames = refl; whole = tt; lines = s.lines; rows = s.rows }
+next_refines b d w s = record { frames = refl; whole = tt; links = s.links; rows = s.rows }

@@ -43,14 +43,14 @@ tick_event now c w sound is s =
     let past : c.moment ≤ n = omega arith in
     let d : Draft = at_moment now (draft_of c) in
     let k : SoundStore d.store = sound_steady.later n (draft_of c).store (start c sound) past (greatest c.moment now sound.now is) in
-    let refines : CentreRefines w d w = record { frames = s.frames; whole = s.whole; lines = s.lines; rows = later_refines n (draft_of c).store w s.rows past } in
+    let refines : CentreRefines w d w = record { frames = s.frames; whole = s.whole; links = s.links; rows = later_refines n (draft_of c).store w s.rows past } in
     let a : Draft = aged d in
     let ka : SoundStore a.store = dropped_steady SoundStore sound_still (expired d.store) (expired_steady SoundStore sound_still d.store k) in
     let f : Draft = fired a in
     let kf : SoundStore f.store = fired_sound a ka in
     let goes : StageIsSteps n w (raised f) w =
     steps_then n w f (raised f) w (steps_then n w a f w (aged_is_steps n w d refl k refines) (λ v y. fired_goes n w a v ka y))
-    (λ v y. steps_still n w (raised f) v (raise_all_refines w f.links.lines f v kf y)) in
+    (λ v y. steps_still n w (raised f) v (raise_all_refines w f.links.all f v kf y)) in
     let acts : Acts Tick_centre n w (raised f) = record {
       own = [];
       follows = goes.0;

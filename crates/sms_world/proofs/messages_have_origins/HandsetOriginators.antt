@@ -50,7 +50,7 @@ use Rattle.sms_centre_rows.specs.declared.waiting.handset.HandsetRow.{HandsetRow
 use Rattle.sms_centre_rows.specs.declared.waiting.handset_link.HandsetLink.{HandsetLink}
 use Rattle.sms_centre_rows.specs.messages.Messages.{message_at, message_key}
 use Rattle.sms_centre_rows.specs.messages.SplitReferences.{next_split}
-use Rattle.sms_centre_rows.specs.waiting.Links.{line_of, turn_line}
+use Rattle.sms_centre_rows.specs.waiting.Links.{link_of, turn_link}
 use Rattle.sms_centre_rows.specs.waiting.References.{handset_of}
 use Rattle.sms_centre_spec.specs.declared.event.CentreEvent.TheVariants.{Frame}
 use Rattle.sms_centre_spec.specs.declared.rows.Rows.{Rows}
@@ -242,10 +242,10 @@ begins_old c s = record { first = refl; old = λ m among. (m, among_found messag
 
 pub frame_brings : (handset octets : List ℕ) (tag : Option Holder) (c : Core) → IsSoundCore c → AreNew (IsAsked (frame_tpdu (cp_at octets))) c.rows (happened (Frame handset octets tag) c).store
 frame_brings handset octets tag c s =
-    let l : HandsetLink = line_of handset c.lines in
+    let l : HandsetLink = link_of handset c.links in
     let tpdu : List ℕ = frame_tpdu (cp_at octets) in
-    up_new (IsAsked tpdu) c.rows l.handset (tag_of tag) (taken octets l.link).out.up (on_links (turn_line l (taken octets l.link) (draft_of c).links) (draft_of c))
+    up_new (IsAsked tpdu) c.rows l.handset (tag_of tag) (taken octets l.near_end).out.up (on_links (turn_link l (taken octets l.near_end) (draft_of c).links) (draft_of c))
     (λ unit opens accounts n now x e.
-    let same : tpdu ≡ unit_tpdu (up_at unit) = step_opens l.link.side l.link.under_way unit octets l.link.links opens in
+    let same : tpdu ≡ unit_tpdu (up_at unit) = step_opens l.near_end.side l.near_end.under_way unit octets l.near_end.links opens in
     read_up accounts tpdu l.handset now (tpdu_up_at InData tpdu) x refl (ap (λ (t : List ℕ). from_read accounts l.handset now (tpdu_up_at InData t)) same ∙ e))
     (begins c s, begins_old c s)

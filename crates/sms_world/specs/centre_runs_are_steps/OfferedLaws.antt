@@ -16,7 +16,7 @@ use Rattle.sms_world.specs.centre_runs_are_steps.Offered.{HasOffered}
 abbrev pub FirstLaw : Type 0
 FirstLaw = (setup : Setup) (handsets : List (List ℕ)) (sessions : List Session) → HasOffered (started (first_rows setup) handsets sessions)
 
--- after a restart no line is up until the first tick
+-- after a restart no link is up until the first tick
 abbrev pub BackLaw : Type 0
 BackLaw = (rows : Rows) (handsets : List (List ℕ)) (sessions : List Session) → HasOffered (recovered rows handsets sessions)
 
@@ -24,7 +24,7 @@ BackLaw = (rows : Rows) (handsets : List (List ℕ)) (sessions : List Session) �
 abbrev pub EventLaw : Type 0
 EventLaw = (event : CentreEvent) (c : Core) → IsSoundCore c → IsEvent event → HasOffered (core_of (happened event c))
 
--- a question changes no row and no line
+-- a question changes no row and no link
 abbrev pub QueryLaw : Type 0
 QueryLaw = (account : ℕ) (wanted : QuerySm) (c : Core) → HasOffered c → (happened (Query account wanted) c).links ≡ (draft_of c).links
 

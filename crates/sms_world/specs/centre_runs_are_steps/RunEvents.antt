@@ -17,7 +17,7 @@ use Rattle.sms_world.specs.centres_refine_the_world.CentreLaws.{AllOffer}
 use Rattle.sms_world.specs.centres_refine_the_world.CentreRefinement.{CentreRefines}
 
 -- What applications ask for, a frame and a tick are events of a script; a frame is handed over by its number. Who is bound, which
--- lines are up and what is due the world doesn't show: there only what waits is offered. An operator deletes as an application
+-- links are up and what is due the world doesn't show: there only what waits is offered. An operator deletes as an application
 -- cancels. The answer to a receipt is no step at all.
 abbrev pub AreOfEvent : ℕ → CentreEvent → World → List Step → Type 0
 AreOfEvent number (Submit account message) w steps = IsPlayed w Submitted steps

@@ -6,7 +6,7 @@ use Rattle.sms_world_model.specs.LastAllocations.{LastAllocations, RefinesAlloca
 use Rattle.sms_world_model.specs.World.{World}
 use Rattle.sms_world.specs.centres_refine_the_world.FramesOut.{AreWholeDown, stacked_down}
 use Rattle.sms_world.specs.centres_refine_the_world.RefinesGiven.{RefinesHolders, seconds_by}
-use Rattle.sms_world.specs.centres_refine_the_world.RefinesLines.{RefinesLines}
+use Rattle.sms_world.specs.centres_refine_the_world.RefinesLinks.{RefinesLinks}
 use Rattle.sms_world.specs.headline.SeenWorld.{PartSeen, RefinesTable, messages_by, parts_by}
 use Rattle.sms_world.specs.centres_refine_the_world.RefinesReports.{ReportSeen, RefinesReports, reports_by}
 
@@ -29,5 +29,5 @@ RowsSee d w = StoreRefines d.store w
 pub record CentreRefines (before : World) (d : Draft) (w : World) : Type 0 where
   pub frames : w.bag ≡ stacked_down d.links.frames before.bag
   pub whole : AreWholeDown d.links.frames
-  pub lines : RefinesLines w.bag d.links.lines
+  pub links : RefinesLinks w.bag d.links.all
   pub rows : RowsSee d w

@@ -1,4 +1,4 @@
-//! What waits for a handset, and its line.
+//! What waits for a handset, and its link.
 use crate::indexes::names::{START, message};
 use crate::rows::{failed_at, holds};
 use sms_base::{Holder, Kind, Listed, Moment, Msisdn};
@@ -33,15 +33,15 @@ enum Step {
     Gives(u8, u8),
     // The handset has a row.
     HasRow,
-    Line(LineStep),
+    Line(LinkStep),
 }
 
-// A step of the line, at so many seconds; one frame goes out where any is to.
+// A step of the link, at so many seconds; one frame goes out where any is to.
 #[derive(Clone, Copy)]
-enum LineStep {
+enum LinkStep {
     Raises,
     Lowers,
-    // Whether the line is up.
+    // Whether the link is up.
     IsReady(bool),
     Begins,
     Fires(u32),
@@ -150,15 +150,15 @@ fn lowers(queue: &mut DeliveryQueue) -> bool {
     true
 }
 
-fn carries(queue: &mut DeliveryQueue, start: Moment, step: &LineStep) -> bool {
+fn carries(queue: &mut DeliveryQueue, start: Moment, step: &LinkStep) -> bool {
     match step {
-        LineStep::Raises => raises(queue),
-        LineStep::Lowers => lowers(queue),
-        LineStep::IsReady(is_so) => queue.line().is_ready() == *is_so,
-        LineStep::Begins => is_one(queue.begin(start, 0, Holder::Entry(1), &[1, 0])),
-        LineStep::Fires(seconds) => sends_one(queue.fire(start.plus(u64::from(*seconds)))),
-        LineStep::Takes(frame) => sends_one(queue.take(frame)),
-        LineStep::Replies(seconds) => {
+        LinkStep::Raises => raises(queue),
+        LinkStep::Lowers => lowers(queue),
+        LinkStep::IsReady(is_so) => queue.link().is_ready() == *is_so,
+        LinkStep::Begins => is_one(queue.begin(start, 0, Holder::Entry(1), &[1, 0])),
+        LinkStep::Fires(seconds) => sends_one(queue.fire(start.plus(u64::from(*seconds)))),
+        LinkStep::Takes(frame) => sends_one(queue.take(frame)),
+        LinkStep::Replies(seconds) => {
             let now = start.plus(u64::from(*seconds));
             is_one(queue.reply(now, Kind::Ack, 5, Holder::Entry(1), &[3, 5]))
         }
@@ -250,19 +250,19 @@ const COURSES: &[Course] = &[
     ),
     // A transaction begins and is repeated by its timer; the handset's RP-SMMA is acknowledged and answered.
     (
-        "a line carries both ways",
+        "a link carries both ways",
         &[
-            Step::Line(LineStep::Raises),
-            Step::Line(LineStep::IsReady(true)),
-            Step::Line(LineStep::Begins),
-            Step::Line(LineStep::Fires(10)),
-            Step::Line(LineStep::Takes(b"\x09\x01\x02\x06\x05")),
-            Step::Line(LineStep::Replies(20)),
+            Step::Line(LinkStep::Raises),
+            Step::Line(LinkStep::IsReady(true)),
+            Step::Line(LinkStep::Begins),
+            Step::Line(LinkStep::Fires(10)),
+            Step::Line(LinkStep::Takes(b"\x09\x01\x02\x06\x05")),
+            Step::Line(LinkStep::Replies(20)),
         ],
-        &[Step::Line(LineStep::Fires(20))],
+        &[Step::Line(LinkStep::Fires(20))],
         &[
-            Step::Line(LineStep::Lowers),
-            Step::Line(LineStep::IsReady(false)),
+            Step::Line(LinkStep::Lowers),
+            Step::Line(LinkStep::IsReady(false)),
         ],
     ),
 ];

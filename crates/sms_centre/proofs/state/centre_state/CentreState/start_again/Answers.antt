@@ -12,5 +12,5 @@ returns-clause-centre_state c = λ core centre_state at.
     begun_represents false core.rows c.args.handsets.now c.args.sessions.rows was.centre.sound.rows c.are_numbers.ensures c.requires.apart c.requires.sessions c.as_slice-seats.ensures.order
     (record old { moment = c.args.moment; queues = c.renew.new.queues; sessions = c.args.sessions })
     was.centre.setup_is at was.centre.messages_are was.reference_index
-    (c.in_ok-renew.ensures.consistent core.rows.handsets core.rows.references core.lines (λ (n : List ℕ). all_for n core.rows) was.centre.queues_are)
+    (c.in_ok-renew.ensures.consistent core.rows.handsets core.rows.references core.links (λ (n : List ℕ). all_for n core.rows) was.centre.queues_are)
     was.centre.reports_are was.log refl

@@ -9,4 +9,4 @@ returns c =
     let bare = c.in_ok-stood.ensures in
     restored_represents c.args.handsets.now c.args.references.now.rows c.in_ok-stood.stood c.requires.sound
     (λ key. ap (λ (es : List (ℕ × PlacedQueue)). under key es) bare.queues ∙ c.in_ok-queues.ensures key) bare.touched
-    (bare.next_place ∙ c.place_behind-next_place.ensures) bare.lines bare.rested
+    (bare.next_place ∙ c.place_behind-next_place.ensures) bare.link_count bare.rested

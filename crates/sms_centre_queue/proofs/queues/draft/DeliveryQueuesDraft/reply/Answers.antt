@@ -4,5 +4,5 @@ use Rattle.sms_centre_queue.proofs.queues.draft.DeliveryQueuesDraft.reply.Goals 
 
 pub returns-in-Ok : goal.returns-in-Ok
 returns-in-Ok c =
-    turn_ok c.args.number (λ l. replied c.args.now c.args.kind c.args.reference c.args.tag c.args.unit.now l.link) c.in_ok-placed.placed c.reply.new.self c.in-Ok.frames
-    c.args.self.now c.take_out.new.self c.put_line.new.self c.put_line.result c.take_out.ensures.number c.in_ok-placed.ensures.taken c.in-Ok.ensures.state c.in-Ok.ensures.frames c.put_line.ensures
+    turn_ok c.args.number (λ l. replied c.args.now c.args.kind c.args.reference c.args.tag c.args.unit.now l.near_end) c.in_ok-placed.placed c.reply.new.self c.in-Ok.frames
+    c.args.self.now c.take_out.new.self c.put_link.new.self c.put_link.result c.take_out.ensures.number c.in_ok-placed.ensures.taken c.in-Ok.ensures.state c.in-Ok.ensures.frames c.put_link.ensures

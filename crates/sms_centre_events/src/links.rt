@@ -1,7 +1,7 @@
 //! Transfers that end by the loss of the link, or by a timer.
 ghost use Rattle.std.specs.Prelude.{OnOk};
-ghost use Rattle.sms_centre_rows.specs.waiting.Links.{line_of};
-ghost use Rattle.sms_centre_spec.specs.CentreEvent.{fire_line as fire_line_of, lost as lost_of, lower as lower_of, timed_out as timed_out_of};
+ghost use Rattle.sms_centre_rows.specs.waiting.Links.{link_of};
+ghost use Rattle.sms_centre_spec.specs.CentreEvent.{fire_link as fire_link_of, lost as lost_of, lower as lower_of, timed_out as timed_out_of};
 ghost use Rattle.sms_centre_spec.specs.Draft.{Draft};
 ghost use Rattle.sms_centre_draft.specs.CentreDraft.{Represents};
 
@@ -30,7 +30,7 @@ pub fn lower(draft: &mut CentreDraft<'_>, handset: Msisdn) -> Result<(), AllocEr
     ensures { (d : Draft) → Represents d draft.old → OnOk result (Represents (lower_of handset d) draft.new) }
 {
     let transfer = draft.under_way(handset);
-    draft.lower_line(handset)?;
+    draft.lower_link(handset)?;
     lost(draft, handset, transfer)
 }
 
@@ -48,9 +48,9 @@ fn timed_out(
     }
 }
 
-/// The timers of the handset's line fire that are due; a transfer that one of them ends has failed.
+/// The timers of the handset's link fire that are due; a transfer that one of them ends has failed.
 pub fn fire(draft: &mut CentreDraft<'_>, handset: Msisdn) -> Result<(), AllocError>
-    ensures { (d : Draft) → Represents d draft.old → OnOk result (Represents (fire_line_of (line_of handset d.links.lines) d) draft.new) }
+    ensures { (d : Draft) → Represents d draft.old → OnOk result (Represents (fire_link_of (link_of handset d.links.all) d) draft.new) }
 {
     let up = draft.fire_timers(handset)?;
     timed_out(draft, handset, up)

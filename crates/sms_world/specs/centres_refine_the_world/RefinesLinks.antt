@@ -38,10 +38,10 @@ abbrev pub RefinesBegunDown : List ℕ → List Sent → Option Carried → Opti
 RefinesBegunDown handset bag under_way None = Unit {0}
 RefinesBegunDown handset bag under_way (Some b) = (c : Carried) × ((under_way ≡ Some c) × WasSentDown handset bag FromOriginator b.frame c × IsNumbered c.tag)
 
-pub record RefinesLine (bag : List Sent) (line : HandsetLink) : Type 0 where
-  pub next : line.link.links.next_identifier < 7
-  pub opened : RefinesOpenedDown line.handset bag line.link.answered line.link.links.opened
-  pub begun : RefinesBegunDown line.handset bag line.link.under_way line.link.links.begun
+pub record RefinesLink (bag : List Sent) (link : HandsetLink) : Type 0 where
+  pub next : link.near_end.links.next_identifier < 7
+  pub opened : RefinesOpenedDown link.handset bag link.near_end.answered link.near_end.links.opened
+  pub begun : RefinesBegunDown link.handset bag link.near_end.under_way link.near_end.links.begun
 
-abbrev pub RefinesLines : List Sent → List HandsetLink → Type 0
-RefinesLines bag lines = (line : HandsetLink) → Among line lines → RefinesLine bag line
+abbrev pub RefinesLinks : List Sent → List HandsetLink → Type 0
+RefinesLinks bag links = (link : HandsetLink) → Among link links → RefinesLink bag link

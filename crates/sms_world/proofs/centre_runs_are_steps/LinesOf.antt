@@ -1,1 +1,0 @@
--- A line that takes its place is found by its handset, and others stay.

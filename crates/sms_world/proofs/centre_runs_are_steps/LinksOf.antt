@@ -1,0 +1,1 @@
+-- A link that takes its place is found by its handset, and others stay.
