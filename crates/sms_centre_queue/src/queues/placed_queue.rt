@@ -72,7 +72,8 @@ impl PlacedQueue {
         match purpose {
             Concern::Offer(now) => link.is_ready() && self.queue.next(*now).is_some(),
             Concern::Fire(now) => link.near_end.is_due(*now),
-            Concern::FireUnmentioned(now) => self.queue.row().is_none() && link.near_end.is_due(*now),
+            Concern::FireUnmentioned(now) => self.queue.row().is_none()
+                && link.near_end.is_due(*now),
             Concern::Awaited => link.is_awaited,
         }
     }
