@@ -1,5 +1,5 @@
 //! A table whose lowest rows leave.
-ghost use Rattle.std.specs.Prelude.{◌≡◌, ℕ, ◌+◌, ◌<◌, ◌≤◌, not, [], drop, length, map, max, nat_lt, slice_get, vec_capacity, IfOk, IsOk, OnErr, OnOk};
+ghost use Rattle.std.specs.Prelude.{◌≡◌, ℕ, ◌+◌, ◌-◌, ◌<◌, ◌≤◌, not, [], drop, length, map, max, nat_lt, slice_get, vec_capacity, IfOk, IsOk, OnErr, OnOk};
 ghost use Rattle.std.specs.Prelude.{MatchResult, option_copied};
 ghost use Rattle.sms_rows.specs.table.Table.{HasRoom, IsAt, IsGap, IsRange, Rises, is_there, put, reserve_for, row_at, rows_from, without, without_all};
 
