@@ -1,3 +1,4 @@
 pub mod Finding
+pub mod Pairing
 pub mod Passing
 pub mod Registering
