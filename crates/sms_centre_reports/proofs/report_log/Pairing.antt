@@ -1,11 +1,12 @@
 -- The reports of the log and the same by their messages: they stay the same, and a message's report is found.
-use Rattle.std.proofs.Common.{◌≡◌, ◌⊎◌, ℕ, zero, suc, ◌+◌, ◌<◌, ◌≤◌, List, [], ◌∷◌, ◌++◌, map, drop, Option, Some, None, refl, sym, ◌∙◌, ap, ap₂, subst, inl, inr, ⊎_elim, eq-eqb, arith}
+use Rattle.std.proofs.Common.{◌≡◌, ◌⊎◌, ℕ, zero, suc, ◌+◌, ◌<◌, ◌≤◌, List, [], ◌∷◌, ◌++◌, length, map, take, drop, get_or, Option, Some, None, refl, sym, ◌∙◌, ap, ap₂, subst, inl, inr, ⊎_elim, eq-eqb, arith}
 use Rattle.std.specs.List.{slice_get}
 use Rattle.std.specs.Option.{option_map}
 use Rattle.std.specs.Prelude.{◌==◌, ◌^◌, nat_lt, if◌then◌else◌}
 use Rattle.std.proofs.lemmas.Bool.{cases_eq, cases_lt, cond-true, cond-false, le-ltb, lt-ltb, ne_eqb}
 use Rattle.sms_base.specs.Among.{Among}
-use Rattle.sms_base.proofs.Lists.{among_back, among_front, among_parts}
+use Rattle.std.proofs.lemmas.List.{take_more}
+use Rattle.sms_base.proofs.Lists.{among_back, among_end, among_front, among_parts}
 use Rattle.sms_rows.specs.table.Keys.{numbers_key}
 use Rattle.sms_rows.specs.table.Table.{AllAbove, Rises, insert, put, row_at, rows_from, without, without_all}
 use Rattle.sms_rows.proofs.table.KeyLaws.{numbers_apart}
@@ -154,6 +155,46 @@ put_same r old ms small same = record {
       m))
       same.pairs;
 }
+
+pub put_pair : (r : LoggedReport) (m : MessageReport) (old rs news : List LoggedReport) (ms more : List MessageReport) → m ≡ message_report r → m.place < 2 ^ 64
+    → rs ≡ without made_key r.place old → news ≡ put made_key r rs → more ≡ put message_report_key m ms → AreSameReports rs ms → AreSameReports news more
+put_pair r m old rs news ms more is small left front back same =
+    let place : r.place < 2 ^ 64 = subst (λ (x : MessageReport). x.place < 2 ^ 64) is small in
+    let was : AreSameReports (without made_key r.place old) ms = subst (λ (l : List LoggedReport). AreSameReports l ms) left same in
+    subst (λ (l : List LoggedReport). AreSameReports l more) (sym (front ∙ ap (λ (l : List LoggedReport). put made_key r l) left))
+    (subst (λ (l : List MessageReport). AreSameReports (put made_key r (without made_key r.place old)) l) (sym (back ∙ ap (λ (x : MessageReport). put message_report_key x ms) is))
+    (put_same r old ms place was))
+
+-- the report at a place goes, if there is one
+pub one_out : (place : ℕ) (r : LoggedReport) (rs : List LoggedReport) (ms : List MessageReport) → Some r ≡ row_at made_key place rs → AreSameReports rs ms
+    → AreSameReports (without made_key place rs) (without message_report_key (message_report_key (message_report r)) ms)
+one_out place r rs ms e same =
+    subst (λ (o : Option LoggedReport). AreSameReports (without made_key place rs) (without_all message_report_key (map message_report_key (report_there o ++ [])) ms)) (sym e)
+    (gone_same (place ∷ []) rs ms same)
+
+pub none_out : (place : ℕ) (rs : List LoggedReport) (ms : List MessageReport) → None ≡ row_at made_key place rs → AreSameReports rs ms → AreSameReports (without made_key place rs) ms
+none_out place rs ms e same =
+    subst (λ (o : Option LoggedReport). AreSameReports (without made_key place rs) (without_all message_report_key (map message_report_key (report_there o ++ [])) ms)) (sym e)
+    (gone_same (place ∷ []) rs ms same)
+
+-- one report after the other
+pub pushed_pairs : (i : ℕ) (r : LoggedReport) (rs : List LoggedReport) (ms : List MessageReport) → i < length rs → r ≡ get_or rs i r → r.place < 2 ^ 64
+    → Rises message_report_key ms × ArePaired (take i rs) ms
+    → Rises message_report_key (put message_report_key (message_report r) ms) × ArePaired (take (i + 1) rs) (put message_report_key (message_report r) ms)
+pushed_pairs i r rs ms l is small so_far =
+    let next : take (i + 1) rs ≡ take i rs ++ r ∷ [] = take_more rs i r l ∙ ap (λ (x : LoggedReport). take i rs ++ x ∷ []) (sym is) in (
+      rises_put message_report_key (message_report r) ms so_far.0,
+      paired_more r (take i rs) (take (i + 1) rs) ms small
+          (λ x m. ⊎_elim
+          (λ (a : Among x (take i rs)). inr a)
+          (λ (e : x ≡ r). inl e)
+          (among_end x r (take i rs) (subst (λ (k : List LoggedReport). Among x k) next m)))
+          (λ x m. subst (λ (k : List LoggedReport). Among x k) (sym next) (⊎_elim
+          (λ (e : x ≡ r). among_back x (take i rs) (r ∷ []) (inl e))
+          (λ (a : Among x (take i rs)). among_front x (take i rs) (r ∷ []) a)
+          m))
+          so_far.1,
+    )
 
 -- ---- a message's report is found
 

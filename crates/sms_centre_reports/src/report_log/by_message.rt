@@ -25,8 +25,8 @@ impl Row for MessageReport {
     }
 }
 
-pub(crate) fn under_message(report: &LoggedReport) -> MessageReport
-    ensures row { result ≡ message_report report.now }
+pub(crate) fn under_message(report: LoggedReport) -> MessageReport
+    ensures row { result ≡ message_report report }
     ensures small { result.place < 2 ^ 64 }
 {
     MessageReport {
@@ -62,7 +62,7 @@ fn put_each(
     ensures { table.old.rows ≡ [] → OnOk result (Rises message_report_key table.new.rows × ArePaired reports.now table.new.rows) }
 {
     for report in reports {
-        table.put(under_message(report))?;
+        table.put(under_message(*report))?;
     }
     Ok(())
 }

@@ -1,4 +1,4 @@
-use Rattle.std.proofs.Common.{List, map, sym, ◌∙◌, ap, ap₂, arith}
+use Rattle.std.proofs.Common.{◌+◌, List, map, sym, ◌∙◌, ap, ap₂, arith}
 use Rattle.sms_centre_rows.specs.declared.reports.report.ReportRow.{ReportRow}
 use Rattle.sms_centre_rows.specs.reports.Reports.{report_key, report_reaching}
 use Rattle.sms_rows.specs.table.Table.{put, without}
