@@ -110,7 +110,7 @@ gone_same ns rs ms same = record {
         let apart = numbers_apart r.id g.0.id r.place g.0.place small other g.1.1 in
         subst (λ (n : ℕ). Among n ns) (sym apart.1) at.0
 
-of_parts : ℕ → ℕ → MessageReport
+abbrev of_parts : ℕ → ℕ → MessageReport
 of_parts id place = record { id = id; place = place }
 
 same_or_apart : (x y : MessageReport) (ms : List MessageReport) → Among x ms → x.place < 2 ^ 64 → y.place < 2 ^ 64 → (x ≡ y) ⊎ (Among x ms × ¬ (message_report_key x ≡ message_report_key y))
@@ -198,7 +198,7 @@ pushed_pairs i r rs ms l is small so_far =
 
 -- ---- a message's report is found
 
-first_of : List MessageReport → Option MessageReport
+abbrev first_of : List MessageReport → Option MessageReport
 first_of [] = None
 first_of (r ∷ rs) = Some r
 
@@ -352,14 +352,15 @@ found_place id first rows rs ms at is same from e =
 
 -- ---- what is left twice is left once
 
-without_out : {A : Type 0} (key : A → ℕ) (n : ℕ) (xs : List A) → without key n (without key n xs) ≡ without key n xs
-without_out key n [] = refl
-without_out key n (x ∷ xs) = ⊎_elim
-    (λ (e : key x ≡ n). ap (λ (l : List A). without key n l) (without_here key n x xs e) ∙ without_out key n xs ∙ sym (without_here key n x xs e))
-    (λ (e : key x ≡ n → ⊥).
-    ap (λ (l : List A). without key n l) (without_behind key n x xs e) ∙ without_behind key n x (without key n xs) e
-    ∙ ap (λ (l : List A). x ∷ l) (without_out key n xs) ∙ sym (without_behind key n x xs e))
-    (cases_eq (key x) n)
+module _ {A : Type 0} (key : A → ℕ) where
+  without_out : (n : ℕ) (xs : List A) → without key n (without key n xs) ≡ without key n xs
+  without_out n [] = refl
+  without_out n (x ∷ xs) = ⊎_elim
+      (λ (e : key x ≡ n). ap (λ (l : List A). without key n l) (without_here key n x xs e) ∙ without_out n xs ∙ sym (without_here key n x xs e))
+      (λ (e : key x ≡ n → ⊥).
+      ap (λ (l : List A). without key n l) (without_behind key n x xs e) ∙ without_behind key n x (without key n xs) e
+      ∙ ap (λ (l : List A). x ∷ l) (without_out n xs) ∙ sym (without_behind key n x xs e))
+      (cases_eq (key x) n)
 
 pub put_over : (r : LoggedReport) (rs : List LoggedReport) → put made_key r (without made_key r.place rs) ≡ put made_key r rs
 put_over r rs = ap (λ (l : List LoggedReport). insert made_key r l) (without_out made_key r.place rs)

@@ -25,14 +25,19 @@ impl Row for MessageReport {
     }
 }
 
-pub(crate) fn under_message(report: LoggedReport) -> MessageReport
-    ensures row { result ≡ message_report report }
+// A number that is handed over is known to have 64 bits.
+fn of_message(id: MessageId, place: u64) -> MessageReport
+    ensures row { result ≡ record { id = id; place = place } }
     ensures small { result.place < 2 ^ 64 }
 {
-    MessageReport {
-        id: report.id,
-        place: report.place,
-    }
+    MessageReport { id, place }
+}
+
+pub(crate) fn under_message(report: &LoggedReport) -> MessageReport
+    ensures row { result ≡ message_report report.now }
+    ensures small { result.place < 2 ^ 64 }
+{
+    of_message(report.id, report.place)
 }
 
 // The place of the report, if it is that of the message.
@@ -62,7 +67,7 @@ fn put_each(
     ensures { table.old.rows ≡ [] → OnOk result (Rises message_report_key table.new.rows × ArePaired reports.now table.new.rows) }
 {
     for report in reports {
-        table.put(under_message(*report))?;
+        table.put(under_message(report))?;
     }
     Ok(())
 }

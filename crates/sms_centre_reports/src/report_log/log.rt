@@ -220,7 +220,7 @@ impl ReportLog {
     {
         self.take_out(Key::of(report.place));
         self.reports.put_ready(report);
-        self.by_message.put_ready(under_message(report));
+        self.by_message.put_ready(under_message(&report));
     }
 
     // The report at that place goes, if there is one.
@@ -230,7 +230,7 @@ impl ReportLog {
     {
         match self.reports.remove(place) {
             Some(report) => {
-                self.by_message.remove(under_message(report).key());
+                self.by_message.remove(under_message(&report).key());
             }
             None => (),
         }
@@ -265,7 +265,7 @@ impl ReportLog {
         ensures capacity { vec_capacity gone.new ≡ vec_capacity gone.old }
     {
         match self.reports.find(place) {
-            Some(report) => gone.push_reserved(under_message(*report)),
+            Some(report) => gone.push_reserved(under_message(report)),
             None => (),
         }
     }

@@ -13,7 +13,7 @@ returns-in-Some c = λ rows h.
     let first = c.place_of-first.result in
     let held : log.reports.rows ≡ map made_report rows = ap (λ (l : LogInMemory). l.reports.rows) c.self.view_is ∙ h in
     let from : drop first log.by_message.rows ≡ rows_from message_report_key (numbers_key c.args.id 0) log.by_message.rows =
-        c.place_of-first.ensures.from ∙ ap (λ (n : ℕ). rows_from message_report_key n log.by_message.rows) (c.numbers.ensures ∙ ap (λ (n : ℕ). numbers_key n 0) c.number.ensures.value) in
+    c.place_of-first.ensures.from ∙ ap (λ (n : ℕ). rows_from message_report_key n log.by_message.rows) (c.numbers.ensures ∙ ap (λ (n : ℕ). numbers_key n 0) c.number.ensures.value) in
     c.place_if_of.ensures ∙ found_place c.args.id first rows log.reports.rows log.by_message.rows (Some c.in-Some.report.now) held c.self.invariant from c.in-Some.ensures
 
 pub returns-in-None : goal.returns-in-None
@@ -22,5 +22,5 @@ returns-in-None c = λ rows h.
     let first = c.place_of-first.result in
     let held : log.reports.rows ≡ map made_report rows = ap (λ (l : LogInMemory). l.reports.rows) c.self.view_is ∙ h in
     let from : drop first log.by_message.rows ≡ rows_from message_report_key (numbers_key c.args.id 0) log.by_message.rows =
-        c.place_of-first.ensures.from ∙ ap (λ (n : ℕ). rows_from message_report_key n log.by_message.rows) (c.numbers.ensures ∙ ap (λ (n : ℕ). numbers_key n 0) c.number.ensures.value) in
+    c.place_of-first.ensures.from ∙ ap (λ (n : ℕ). rows_from message_report_key n log.by_message.rows) (c.numbers.ensures ∙ ap (λ (n : ℕ). numbers_key n 0) c.number.ensures.value) in
     found_place c.args.id first rows log.reports.rows log.by_message.rows None held c.self.invariant from c.in-None.ensures

@@ -17,7 +17,7 @@ pub invariant_of-self : goal.invariant_of-self
 invariant_of-self c =
     let old = c.args.self.now.reports.rows in
     let left : c.self.inside.reports.rows ≡ without made_key c.args.report.place old =
-        ap (λ (l : LogInMemory). l.reports.rows) c.self.view_is ∙ c.take_out.ensures.reports ∙ ap (λ (n : ℕ). without made_key n old) c.of.ensures in
+    ap (λ (l : LogInMemory). l.reports.rows) c.self.view_is ∙ c.take_out.ensures.reports ∙ ap (λ (n : ℕ). without made_key n old) c.of.ensures in
     put_pair c.args.report c.under_message.result old c.self.inside.reports.rows c.put_ready.new.self.rows c.self.inside.by_message.rows c.put_ready-2.new.self.rows
     c.under_message.ensures.row c.under_message.ensures.small left c.put_ready.ensures.rows c.put_ready-2.ensures.rows c.self.invariant
 
@@ -25,7 +25,7 @@ pub returns-clause-reports : goal.returns-clause-reports
 returns-clause-reports c =
     let old = c.args.self.now.reports.rows in
     let left : c.self.inside.reports.rows ≡ without made_key c.args.report.place old =
-        ap (λ (l : LogInMemory). l.reports.rows) c.self.view_is ∙ c.take_out.ensures.reports ∙ ap (λ (n : ℕ). without made_key n old) c.of.ensures in
+    ap (λ (l : LogInMemory). l.reports.rows) c.self.view_is ∙ c.take_out.ensures.reports ∙ ap (λ (n : ℕ). without made_key n old) c.of.ensures in
     c.put_ready.ensures.rows ∙ ap (λ (l : List LoggedReport). put made_key c.args.report l) left ∙ put_over c.args.report old
 
 pub returns-clause-room : goal.returns-clause-room

@@ -17,9 +17,9 @@ invariant_of-self c =
     let ms = c.self.inside.by_message.rows in
     let keys = map (λ (x : Revision ReportRow). revision_key report_key x) c.args.changes.now in
     let noted : c.as_slice.result.now ≡ reports_at keys rs =
-        c.as_slice.ensures.value ∙ c.note_gone.ensures ∙ ap (λ (l : LogInMemory). reports_at keys l.reports.rows) (sym c.self.view_is) in
+    c.as_slice.ensures.value ∙ c.note_gone.ensures ∙ ap (λ (l : LogInMemory). reports_at keys l.reports.rows) (sym c.self.view_is) in
     let left = ap (λ (t : RowsInMemory LoggedReport). t.rows) c.remove_all-2.ensures in
     let out = ap (λ (t : RowsInMemory MessageReport). t.rows) c.remove_all.ensures
-        ∙ ap (λ (gone : List MessageReport). without_all message_report_key (map message_report_key gone) ms) noted in
+    ∙ ap (λ (gone : List MessageReport). without_all message_report_key (map message_report_key gone) ms) noted in
     subst (λ (l : List LoggedReport). AreSameReports l c.remove_all.new.self.rows) (sym left)
     (subst (λ (l : List MessageReport). AreSameReports (without_all made_key keys rs) l) (sym out) (gone_same keys rs ms c.self.invariant))
