@@ -1,10 +1,10 @@
 //! Tables of rows by their keys, between events and within one.
 //!
 //! `Table` has its rows in the order of their keys, at most one row a key, and finds one in logarithmic time. A
-//! `Change` takes no memory where room was made before. A `Key` is a number, a number and a small one, digits, or
-//! digits and a small number; contracts see it as one number. `TableDraft` is a table within an event: the rows from
-//! before it, and what it changed. It settles into changes with the memory that they need. `adopt` puts them in without
-//! taking more: so a plan is made, is committed, and then can't fail.
+//! `Change` takes no memory where room was made before. A `Key` is a number, two numbers, a number and a small one, or
+//! digits; contracts see it as one number. `TableDraft` is a table within an event: the rows from before it, and what it
+//! changed. It settles into changes with the memory that they need. `adopt` puts them in without taking more: so a plan
+//! is made, is committed, and then can't fail.
 ghost use Rattle.std.specs.Prelude.{◌≡◌, ◌↔◌, ℕ, ◌+◌, ◌*◌, ◌<◌, ◌≤◌, not, true, [], nat_lt, length, map, drop, max, vec_capacity, MatchResult, OnOk, OnErr};
 ghost use Rattle.std.specs.Prelude.{IsOk, IfOk, IfErr, option_copied};
 ghost use Rattle.sms_rows.specs.table.Table.{HasRoom, IsAt, IsGap, IsRange, Rises, all_applied, applied, is_there, put, row_at, rows_between, rows_from};
@@ -15,11 +15,17 @@ mod change;
 mod draft;
 mod key;
 pub mod laws;
+mod range;
+mod reserve;
+mod rolling;
 
 use crate::table::beside::start_in;
+use crate::table::range::{is_in, range_of};
 pub use change::{Change, are_removals};
 pub use draft::{TableDraft, TablePlan, adopt};
 pub use key::Key;
+pub use reserve::TableReserve;
+pub use rolling::RollingTable;
 use std::alloc::{AllocError, Global};
 use std::marker::Model;
 
@@ -286,19 +292,7 @@ impl<T: Drop + Row> Table<T> {
         ensures ok { IfOk result (λ reserve. reserve ≡ reserve_for extra self.now) }
         ensures err { OnErr result (self.now.capacity < length self.now.rows + extra) }
     {
-        let len = self.items.len();
-        if extra <= self.items.capacity() - len {
-            let items = Vec::new(alloc);
-            return Ok(TableReserve { items });
-        }
-        let Some(wanted) = len.checked_add(extra) else {
-            return Err(AllocError);
-        };
-        let Some(capacity) = len.checked_add(wanted) else {
-            return Err(AllocError);
-        };
-        let items = Vec::with_capacity(alloc, capacity)?;
-        Ok(TableReserve { items })
+        TableReserve::beside(alloc, self.items.len(), self.items.capacity(), extra)
     }
 
     /// Moves the rows into the memory where it is larger than the table's own, without taking memory.
@@ -306,7 +300,7 @@ impl<T: Drop + Row> Table<T> {
         ensures rows { self.new.rows ≡ self.old.rows }
         ensures capacity { max self.old.capacity reserve ≤ self.new.capacity }
     {
-        let mut items = reserve.items;
+        let mut items = reserve.into_vec();
         if self.items.capacity() < items.capacity() {
             match items.append(&mut self.items) {
                 Ok(()) => self.items = items,
@@ -314,22 +308,6 @@ impl<T: Drop + Row> Table<T> {
             }
         }
     }
-}
-
-/// Memory for rows that no table uses yet, seen by contracts as how many rows it holds.
-#[derive(Drop)]
-pub struct TableReserve<T: Drop> {
-    items: Vec<T>,
-}
-
-impl<T: Drop> Model for TableReserve<T> {
-    ghost use Rattle.std.specs.Prelude.{◌≡◌, ℕ, [], vec_capacity};
-
-    ghost Value = { ℕ };
-
-    ghost view = { λ s. vec_capacity s.items };
-
-    ghost invariant = { λ s. s.items.items ≡ [] };
 }
 
 /// Whether the keys of the rows rise: the rows are in order, at most one a key.
@@ -342,63 +320,4 @@ pub fn rises<T: Row>(rows: &[T]) -> bool
         }
     }
     true
-}
-
-// The numbers of keys from one to another.
-#[derive(Clone, Copy)]
-struct KeyRange {
-    low: u128,
-    high: u128,
-}
-
-fn lower(one: u128, other: u128) -> u128
-    ensures one { result ≤ one }
-    ensures other { result ≤ other }
-{
-    if one < other { one } else { other }
-}
-
-fn higher(one: u128, other: u128) -> u128
-    ensures one { one ≤ result }
-    ensures other { other ≤ result }
-{
-    if one < other { other } else { one }
-}
-
-// From the lowest key of these rows to the highest.
-fn range_of<C: Row>(rows: &[C]) -> KeyRange
-    ensures { IsRange C.key result.low result.high rows.now }
-{
-    let mut low = u128::MAX;
-    let mut high = 0;
-    for row in rows {
-        let number = row.key().number();
-        low = lower(low, number);
-        high = higher(high, number);
-    }
-    KeyRange { low, high }
-}
-
-// Whether one of these rows, of keys in that range, has that key.
-fn is_in<C: Row>(rows: &[C], range: KeyRange, key: Key) -> bool
-    ensures { IsRange C.key range.low range.high rows.now → result ≡ is_there C.key key rows.now }
-{
-    if key.number() < range.low {
-        return false;
-    }
-    if range.high < key.number() {
-        return false;
-    }
-    has_key(rows, key)
-}
-
-fn has_key<C: Row>(rows: &[C], key: Key) -> bool
-    ensures { result ≡ is_there C.key key rows.now }
-{
-    for row in rows {
-        if row.key().number() == key.number() {
-            return true;
-        }
-    }
-    false
 }

@@ -85,10 +85,14 @@ pub record RowsInMemory (A : Type 0) : Type 0 where
 abbrev pub HasRoom : {A : Type 0} → ℕ → RowsInMemory A → Type 0
 HasRoom extra table = length table.rows + extra ≤ table.capacity
 
--- memory to be taken beside a table's for that many rows more. It is none where the table has room, else enough for
--- twice its rows and the others. So a row that is put costs no more however many are there
+-- memory to be taken beside that of so many rows, which holds so many, for the extra ones. It is none where there is
+-- room, else enough for twice the rows and the others. So a row that is put costs no more however many are there
+abbrev pub reserve_beside : ℕ → ℕ → ℕ → ℕ
+reserve_beside extra len capacity = if nat_le (len + extra) capacity then 0 else 2 * len + extra
+
+-- memory to be taken beside a table's for that many rows more
 abbrev pub reserve_for : {A : Type 0} → ℕ → RowsInMemory A → ℕ
-reserve_for extra table = if nat_le (length table.rows + extra) table.capacity then 0 else 2 * length table.rows + extra
+reserve_for extra table = reserve_beside extra (length table.rows) table.capacity
 
 -- ---- changes
 

@@ -1,7 +1,7 @@
 use Rattle.std.proofs.Common.{◌≡◌, ℕ, drop, true, false}
 use Rattle.std.specs.Prelude.{◌||◌, nat_lt}
 use Rattle.sms_rows.specs.table.Table.{is_there}
-use Rattle.sms_rows.proofs.table.range_of.Given as goal
+use Rattle.sms_rows.proofs.table.range.range_of.Given as goal
 
 -- a key that is neither in the range so far nor that of a row behind is none
 abbrev pub invariant-loop-row : goal.invariant-loop-row

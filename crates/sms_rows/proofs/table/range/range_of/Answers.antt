@@ -1,7 +1,7 @@
 use Rattle.std.proofs.Common.{◌≡◌, ◌+◌, suc, drop, sym, ◌∙◌, ap, arith}
 use Rattle.sms_rows.specs.table.Table.{is_there}
 use Rattle.sms_rows.proofs.table.Removals.{none_left, range_on}
-use Rattle.sms_rows.proofs.table.range_of.Goals as goal
+use Rattle.sms_rows.proofs.table.range.range_of.Goals as goal
 
 pub loop-row-init : goal.loop-row-init
 loop-row-init g c = λ n out none. none

@@ -2,7 +2,7 @@ use Rattle.std.proofs.Common.{◌≡◌, ◌+◌, suc, sym, ◌∙◌, ap, drop,
 use Rattle.std.specs.Prelude.{is_some}
 use Rattle.sms_rows.specs.table.Table.{row_at}
 use Rattle.sms_rows.proofs.table.Removals.{found_by, none_left, passed_by}
-use Rattle.sms_rows.proofs.table.has_key.Goals as goal
+use Rattle.sms_rows.proofs.table.range.has_key.Goals as goal
 
 pub loop-row-preserved : goal.loop-row-preserved
 loop-row-preserved g c =
