@@ -100,7 +100,9 @@ module _ {A : Type 0} where
 
   take_one_more : (i : ℕ) (xs : List A) → take (i + 1) xs ≡ take i xs ++ take 1 (drop i xs)
   take_one_more zero xs = refl
-  take_one_more (suc i) [] = let s : suc i + 1 ≡ suc (i + 1) = omega arith in ap (λ (k : ℕ). take k ([] {A = A})) s
+  take_one_more (suc i) [] = let nothing : List A = [] in
+      let s : suc i + 1 ≡ suc (i + 1) = omega arith in
+      ap (λ (k : ℕ). take k nothing) s
   take_one_more (suc i) (x ∷ xs) =
       let s : suc i + 1 ≡ suc (i + 1) = omega arith in
       ap (λ (k : ℕ). take k (x ∷ xs)) s ∙ ap (λ (l : List A). x ∷ l) (take_one_more i xs)

@@ -147,10 +147,13 @@ impl MessageIndex {
         ensures { OnOk result (claims.new.items ≡ claims.old.items ++ claims_of_entries message.now
             (slice_range self.now.parts.rows place (place + 1))) }
     {
-        if let Some(part) = self.parts.get(place) {
-            add_claim_of_header(message, &part.key, claims)?;
+        match self.parts.get(place) {
+            Some(part) => {
+                add_claim_of_header(message, &part.key, claims)?;
+                Ok(())
+            }
+            None => Ok(()),
         }
-        Ok(())
     }
 }
 

@@ -4,7 +4,7 @@ use Rattle.sms_centre_messages.proofs.message_index.index.MessageIndex.add_claim
 
 abbrev pub invariant-loop-place : goal.invariant-loop-place
 invariant-loop-place l = record {
-  begun : l.places.start ≤ l.place;
-  within : l.place - l.places.start ≤ l.places.end - l.places.start;
-  claims : l.claims.items ≡ l.initial.claims.items ++ claims_of_entries l.message (slice_range l.self.parts.rows l.places.start l.place);
+  begun : l.fn.places.start ≤ l.place;
+  within : l.place - l.fn.places.start ≤ l.fn.places.end - l.fn.places.start;
+  claims : l.claims.items ≡ l.initial.claims.items ++ claims_of_entries l.message (slice_range l.self.parts.rows l.fn.places.start l.place);
 }
