@@ -1,3 +1,4 @@
+pub mod Between
 pub mod Claiming
 pub mod Entries
 pub mod Forgetting

@@ -1,8 +1,8 @@
 -- What a message lays claim to is told by the parts that memory has of it.
-use Rattle.std.proofs.Common.{◌≡◌, ℕ, ◌+◌, ◌*◌, ◌<◌, ◌≤◌, List, [], ◌∷◌, ◌++◌, map, length, get_or, take, Bool, true, false, refl, sym, ◌∙◌, ap, subst, inl, inr, ⊎_elim, append_assoc, append-nil, eq-eqb, arith}
+use Rattle.std.proofs.Common.{◌≡◌, ℕ, ◌+◌, ◌*◌, ◌<◌, ◌≤◌, List, [], ◌∷◌, ◌++◌, map, slice_range, Some, None, Bool, true, false, refl, sym, ◌∙◌, ap, subst, inl, inr, ⊎_elim, append_assoc, append-nil, eq-eqb, arith}
 use Rattle.std.specs.Prelude.{◌==◌, nat_lt, if◌then◌else◌}
 use Rattle.std.proofs.lemmas.Bool.{cases_Bool, cond-true, cond-false, ltb-false, ltb-true, ne_eqb}
-use Rattle.std.proofs.lemmas.List.{take_more}
+use Rattle.std.specs.List.{slice_get}
 use Rattle.sms_base.specs.Among.{Among}
 use Rattle.sms_rows.specs.table.Keys.{pair_key}
 use Rattle.sms_rows.specs.table.Table.{AllAbove, Rises, rows_before, rows_between, rows_from}
@@ -15,9 +15,10 @@ use Rattle.sms_centre_rows.specs.messages.Messages.{part_key}
 use Rattle.sms_centre_rows.specs.messages.PartEntries.{Few, entry_key, part_entry}
 use Rattle.sms_centre_rows.specs.messages.SplitReferences.{unless_split, wide_in}
 use Rattle.sms_centre_messages.specs.message_index.Forgettable.{claims_of_entries}
+use Rattle.sms_centre_messages.proofs.message_index.Between.{range_beyond, range_more, range_of_one}
 use Rattle.sms_centre_messages.proofs.message_index.Numbers.{entries_before, entries_from}
 
--- ---- one entry more
+-- ---- one entry after another
 
 entries_append : (m : MessageRow) (xs ys : List PartEntry) → claims_of_entries m (xs ++ ys) ≡ claims_of_entries m xs ++ claims_of_entries m ys
 entries_append m [] ys = refl
@@ -25,15 +26,24 @@ entries_append m (x ∷ xs) ys =
     let one : List Claim = claims_of_header m (unless_split m.split_reference (wide_in x.key)) in
     ap (λ (l : List Claim). one ++ l) (entries_append m xs ys) ∙ sym (append_assoc one (claims_of_entries m xs) (claims_of_entries m ys))
 
-pub claims_next : (m : MessageRow) (i : ℕ) (es : List PartEntry) (e : PartEntry) (first now next : List Claim) → i < length es → e ≡ get_or es i e → now ≡ first ++ claims_of_entries m (take i es)
-    → next ≡ now ++ claims_of_header m (unless_split m.split_reference (wide_in e.key)) → next ≡ first ++ claims_of_entries m (take (i + 1) es)
-claims_next m i es e first now next l is so_far more =
+-- the entries from a place to another, and the next one
+pub claims_more : (m : MessageRow) (es : List PartEntry) (start place : ℕ) (first now next : List Claim) → start ≤ place → now ≡ first ++ claims_of_entries m (slice_range es start place)
+    → next ≡ now ++ claims_of_entries m (slice_range es place (place + 1)) → next ≡ first ++ claims_of_entries m (slice_range es start (place + 1))
+claims_more m es start place first now next l so_far more =
+    let those : List PartEntry = slice_range es start place in
+    let one : List PartEntry = slice_range es place (place + 1) in
+    more ∙ ap (λ (c : List Claim). c ++ claims_of_entries m one) so_far ∙ append_assoc first (claims_of_entries m those) (claims_of_entries m one)
+    ∙ ap (λ (c : List Claim). first ++ c) (sym (entries_append m those one))
+    ∙ ap (λ (xs : List PartEntry). first ++ claims_of_entries m xs) (sym (range_more start place es l))
+
+pub claims_at : (m : MessageRow) (es : List PartEntry) (place : ℕ) (e : PartEntry) (now next : List Claim) → slice_get es place ≡ Some e
+    → next ≡ now ++ claims_of_header m (unless_split m.split_reference (wide_in e.key)) → next ≡ now ++ claims_of_entries m (slice_range es place (place + 1))
+claims_at m es place e now next at more =
     let one : List Claim = claims_of_header m (unless_split m.split_reference (wide_in e.key)) in
-    let list : take (i + 1) es ≡ take i es ++ e ∷ [] = take_more es i e l ∙ ap (λ (x : PartEntry). take i es ++ x ∷ []) (sym is) in
-    more ∙ ap (λ (l : List Claim). l ++ one) so_far ∙ append_assoc first (claims_of_entries m (take i es)) one
-    ∙ ap (λ (l : List Claim). first ++ (claims_of_entries m (take i es) ++ l)) (sym (append-nil one))
-    ∙ ap (λ (l : List Claim). first ++ l) (sym (entries_append m (take i es) (e ∷ [])))
-    ∙ ap (λ (l : List PartEntry). first ++ claims_of_entries m l) (sym list)
+    more ∙ ap (λ (c : List Claim). now ++ c) (sym (append-nil one)) ∙ ap (λ (xs : List PartEntry). now ++ claims_of_entries m xs) (sym (range_of_one place es e at))
+
+pub claims_beyond : (m : MessageRow) (es : List PartEntry) (place : ℕ) (now : List Claim) → slice_get es place ≡ None → now ≡ now ++ claims_of_entries m (slice_range es place (place + 1))
+claims_beyond m es place now at = sym (ap (λ (xs : List PartEntry). now ++ claims_of_entries m xs) (range_beyond place es at) ∙ append-nil now)
 
 -- ---- the parts between the first key of the message and the last
 

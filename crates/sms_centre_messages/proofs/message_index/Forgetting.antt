@@ -1,5 +1,5 @@
 -- What is asked of a message before it is forgotten is so of its row.
-use Rattle.std.proofs.Common.{◌≡◌, ℕ, zero, suc, ◌+◌, ◌<◌, ◌≤◌, List, [], ◌∷◌, length, drop, length-drop, Bool, true, false, Some, None, refl, sym, ◌∙◌, ap, ⊎_elim, eq-eqb, arith}
+use Rattle.std.proofs.Common.{◌≡◌, ℕ, zero, suc, ◌+◌, ◌<◌, ◌≤◌, List, [], ◌∷◌, length, drop, Bool, true, false, Some, None, refl, sym, ◌∙◌, ap, ⊎_elim, eq-eqb, arith}
 use Rattle.std.specs.List.{slice_get}
 use Rattle.std.specs.Prelude.{◌==◌, ◌&&◌, ◌||◌, ◌-◌, nat_le, nat_lt, if◌then◌else◌}
 use Rattle.std.proofs.lemmas.Bool.{eqb-true, le-ltb, ltb-false, ltb-true}
@@ -11,30 +11,12 @@ use Rattle.sms_centre_spec.specs.forgetting.Forgetting.{last_submitted, leaves_n
 use Rattle.sms_centre_messages.specs.declared.message_index.message_entry.MessageEntry.{MessageEntry}
 use Rattle.sms_centre_messages.specs.message_index.Entries.{AreEntries, NamesOf, message_entry_key}
 use Rattle.sms_centre_messages.specs.message_index.MessageIndex.{MessageIndexOf, Represents}
+use Rattle.sms_centre_messages.proofs.message_index.Between.{below, drop_below, place_below}
 use Rattle.sms_centre_messages.proofs.message_index.Entries.{same_key}
 use Rattle.sms_centre_messages.proofs.message_index.IndexRepresents.{next_none, next_some}
 use Rattle.std.proofs.lemmas.Option.{slice_get_within}
 
 -- ---- from a number on
-
-abbrev below : {A : Type 0} → (A → ℕ) → ℕ → List A → ℕ
-below key n [] = 0
-below key n (x ∷ xs) = if nat_lt (key x) n then suc (below key n xs) else 0
-
-few_below : {A : Type 0} (key : A → ℕ) (n : ℕ) (xs : List A) → below key n xs ≤ length xs
-few_below key n [] = omega arith
-few_below key n (x ∷ xs) = by (nat_lt (key x) n) (few_below key n xs) where
-  by : (b : Bool) → below key n xs ≤ length xs → (if b then suc (below key n xs) else 0) ≤ suc (length xs)
-  by true l = omega (arith, l)
-  by false l = omega arith
-
-drop_below : {A : Type 0} (key : A → ℕ) (n : ℕ) (xs : List A) → drop (below key n xs) xs ≡ rows_from key n xs
-drop_below key n [] = refl
-drop_below {A = A} key n (x ∷ xs) = by (nat_lt (key x) n) (drop_below key n xs) where
-  by : (b : Bool) → drop (below key n xs) xs ≡ rows_from key n xs
-      → drop (if b then suc (below key n xs) else 0) (x ∷ xs) ≡ (if b then rows_from key n xs else x ∷ xs)
-  by true e = e
-  by false e = refl
 
 alike_below : (names : NamesOf) (n : ℕ) (es : List MessageEntry) (ms : List MessageRow) → AreEntries names es ms → below message_entry_key n es ≡ below message_key n ms
 alike_below names n [] [] are = refl
@@ -47,12 +29,7 @@ alike_below names n (e ∷ es) (m ∷ ms) are =
 pub from_alike : (names : NamesOf) (n place : ℕ) (es : List MessageEntry) (ms : List MessageRow) → AreEntries names es ms → place ≤ length es
     → drop place es ≡ rows_from message_entry_key n es → drop place ms ≡ rows_from message_key n ms
 from_alike names n place es ms are l e =
-    let count : length (drop place es) ≡ length (drop (below message_entry_key n es) es) = ap (λ (xs : List MessageEntry). length xs) (e ∙ sym (drop_below message_entry_key n es)) in
-    let one = length-drop place es in
-    let other = length-drop (below message_entry_key n es) es in
-    let few = few_below message_entry_key n es in
-    let same : place ≡ below message_entry_key n es = omega (arith, count, one, other, few, l) in
-    ap (λ (k : ℕ). drop k ms) (same ∙ alike_below names n es ms are) ∙ drop_below message_key n ms
+    ap (λ (k : ℕ). drop k ms) (place_below message_entry_key n place es l e ∙ alike_below names n es ms are) ∙ drop_below message_key n ms
 
 -- ---- the last message
 

@@ -39,19 +39,21 @@ holds_put row e names messages old noted notes keeps is there ms ps h = record {
 }
 
 -- and in memory that was there
-pub puts_in : (row : MessageRow) (e : MessageEntry) (names : NamesOf) (old noted : MessageIndexOf) → Notes row old noted → NamesStay noted.names names → UsesNames noted.names names → IsEntry names e row
-    → PutsIn row old (record { names = names; messages = record noted.messages { rows = put message_entry_key e noted.messages.rows }; parts = noted.parts; deadlines = noted.deadlines })
-puts_in row e names old noted notes keeps uses is = record {
-  holds = holds_put row e names (record noted.messages { rows = put message_entry_key e noted.messages.rows }) old noted notes keeps is refl;
+pub puts_in : (row : MessageRow) (e : MessageEntry) (names : NamesOf) (messages : RowsInMemory MessageEntry) (old noted : MessageIndexOf) → Notes row old noted → NamesStay noted.names names → UsesNames noted.names names → IsEntry names e row
+    → messages.rows ≡ put message_entry_key e noted.messages.rows → noted.messages.capacity ≤ messages.capacity
+    → PutsIn row old (record { names = names; messages = messages; parts = noted.parts; deadlines = noted.deadlines })
+puts_in row e names messages old noted notes keeps uses is there grows = record {
+  holds = holds_put row e names messages old noted notes keeps is there;
   room = λ n room.
-      let l = length_applied message_entry_key (Put e) noted.messages.rows in
+      let l : length (put message_entry_key e noted.messages.rows) ≤ length noted.messages.rows + 1 = length_applied message_entry_key (Put e) noted.messages.rows in
+      let rows : length messages.rows ≡ length (put message_entry_key e noted.messages.rows) = ap (λ (es : List MessageEntry). length es) there in
       let r = room.messages in
       let a : length noted.messages.rows ≡ length old.messages.rows = ap (λ (t : RowsInMemory MessageEntry). length t.rows) notes.messages in
       let b : noted.messages.capacity ≡ old.messages.capacity = ap (λ (t : RowsInMemory MessageEntry). t.capacity) notes.messages in
       let numbers : noted.names.numbers.room ≡ old.names.numbers.room = ap (λ (t : NamesOf). t.numbers.room) notes.names in
       let accounts : noted.names.accounts.room ≡ old.names.accounts.room = ap (λ (t : NamesOf). t.accounts.room) notes.names in
       record {
-        messages = omega (arith, l, r, a, b);
+        messages = omega (arith, l, rows, grows, r, a, b);
         numbers = omega (arith, numbers, uses.numbers, room.numbers);
         accounts = omega (arith, accounts, uses.accounts, room.accounts);
         deadlines = omega (arith, notes.few, notes.room, room.deadlines);

@@ -1,5 +1,5 @@
 -- The number of the message at a place.
-use Rattle.std.proofs.Common.{◌≡◌, ℕ, zero, suc, List, [], ◌∷◌, map, length, drop, Option, Some, None, Bool, true, false, refl, sym, ◌∙◌, ap, subst}
+use Rattle.std.proofs.Common.{◌≡◌, ℕ, zero, suc, ◌+◌, ◌-◌, ◌≤◌, List, [], ◌∷◌, map, length, length-drop, drop, Option, Some, None, Bool, true, false, refl, sym, ◌∙◌, ap, subst, arith}
 use Rattle.std.specs.List.{slice_get}
 use Rattle.std.specs.Prelude.{nat_lt, if◌then◌else◌}
 use Rattle.std.proofs.lemmas.List.{length-map}
@@ -14,8 +14,10 @@ use Rattle.sms_centre_rows.specs.declared.messages.message.MessageRow.{MessageRo
 use Rattle.sms_centre_spec.specs.forgetting.Forget.{first_number}
 use Rattle.sms_centre_messages.specs.declared.message_index.message_entry.MessageEntry.{MessageEntry}
 use Rattle.sms_centre_messages.specs.message_index.Entries.{AreEntries, NamesOf, message_entry_key}
+use Rattle.sms_centre_messages.proofs.message_index.Between.{get_behind}
 use Rattle.sms_centre_messages.proofs.message_index.Entries.{same_key}
 use Rattle.sms_centre_messages.proofs.message_index.IndexRepresents.{no_row, placed_row}
+use Rattle.sms_centre_messages.proofs.message_index.Places.{get_beyond}
 
 abbrev number_of : Option MessageRow → ℕ
 number_of None = 0
@@ -35,6 +37,16 @@ numbered names place es ms e are at =
 
 pub unnumbered : (names : NamesOf) (place : ℕ) (es : List MessageEntry) (ms : List MessageRow) → AreEntries names es ms → slice_get es place ≡ None → 0 ≡ first_number (drop place ms)
 unnumbered names place es ms are at = sym (first_behind place ms ∙ ap (λ (o : Option MessageRow). number_of o) (no_row names place es ms are at))
+
+-- the entry at a place behind the first one from a key on
+pub entry_behind : (n start most : ℕ) (es : List MessageEntry) → drop start es ≡ rows_from message_entry_key n es → slice_get (rows_from message_entry_key n es) most ≡ slice_get es (start + most)
+entry_behind n start most es from = ap (λ (l : List MessageEntry). slice_get l most) (sym from) ∙ get_behind start most es
+
+pub none_behind : (n start most : ℕ) (es : List MessageEntry) → drop start es ≡ rows_from message_entry_key n es → length es - start ≤ most → slice_get (rows_from message_entry_key n es) most ≡ None
+none_behind n start most es from few =
+    let count : length (drop start es) ≡ length (rows_from message_entry_key n es) = ap (λ (l : List MessageEntry). length l) from in
+    let rest = length-drop start es in
+    get_beyond (rows_from message_entry_key n es) most (omega (arith, count, rest, few))
 
 pub entries_behind : (names : NamesOf) (n : ℕ) (es : List MessageEntry) (ms : List MessageRow) → AreEntries names es ms → AreEntries names (rows_from message_entry_key n es) (rows_from message_key n ms)
 entries_behind names n [] [] are = are

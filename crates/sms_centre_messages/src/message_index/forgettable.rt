@@ -1,5 +1,5 @@
 //! What is asked of a message before it is forgotten.
-ghost use Rattle.std.specs.Prelude.{◌≡◌, ◌++◌, ◌&&◌, List, drop, is_some, nat_le, nat_lt, slice_get, IfOk, OnOk};
+ghost use Rattle.std.specs.Prelude.{◌≡◌, ◌+◌, ◌≤◌, ◌++◌, ◌&&◌, List, drop, is_some, length, nat_le, nat_lt, slice_get, slice_range, IfOk, OnOk};
 ghost use Rattle.sms_rows.specs.table.Keys.{pair_key};
 ghost use Rattle.sms_rows.specs.table.Table.{rows_between, rows_from};
 ghost use Rattle.sms_centre_rows.specs.messages.Bars.{claims_of, claims_of_header, claims_of_split};
@@ -10,7 +10,6 @@ ghost use Rattle.sms_centre_rows.specs.declared.messages.message.MessageRow.{Mes
 ghost use Rattle.sms_centre_rows.specs.declared.messages.part.PartRow.{PartRow as PartRowOf};
 ghost use Rattle.sms_centre_spec.specs.forgetting.Forget.{next_from};
 ghost use Rattle.sms_centre_spec.specs.forgetting.Forgetting.{is_before as is_before_of, leaves_number};
-ghost use Rattle.sms_centre_messages.specs.message_index.Entries.{message_entry_key};
 ghost use Rattle.sms_centre_messages.specs.message_index.Forgettable.{claims_of_entries, count_parts};
 ghost use Rattle.sms_centre_messages.specs.message_index.MessageIndex.{Represents};
 
@@ -18,29 +17,31 @@ use crate::message_index::index::MessageIndex;
 use crate::message_index::message_entry::MessageEntry;
 use crate::references::own_reference;
 use sms_base::{MessageId, Moment};
-use sms_centre_rows::messages::{Claim, MessageRow, PartEntry, is_delivered};
+use sms_centre_rows::messages::{Claim, MessageRow, is_delivered};
 use sms_concat::ConcatKey;
 use sms_rows::table::Key;
 use std::alloc::{AllocError, Global};
+
+// Where the parts of a message stand among all: from the one place on, before the other.
+#[derive(Clone, Copy)]
+struct PartPlaces {
+    start: usize,
+    end: usize,
+}
 
 impl MessageIndex {
     /// The place of the first message with that number or a greater one, in the order of numbers, from place 0 on.
     pub fn place_from(&self, number: u64) -> usize
         ensures { (ms : List MessageRowOf) (ps : List PartRowOf) → Represents self.now ms ps → drop result ms ≡ rows_from message_key number ms }
     {
-        let rows = self.messages.as_slice();
-        rows.partition_point(
-            |entry: &MessageEntry| -> bool
-                ensures { result ≡ nat_lt (message_entry_key entry.now) number }
-            { entry.id.number() < number },
-        )
+        self.messages.place_of(Key::of(number))
     }
 
     /// The message at that place, in memory of its own.
     pub fn row(&self, alloc: Global, place: usize) -> Result<Option<MessageRow>, AllocError>
         ensures { (ms : List MessageRowOf) (ps : List PartRowOf) → Represents self.now ms ps → IfOk result (λ row. row ≡ slice_get ms place) }
     {
-        match self.messages.as_slice().get(place) {
+        match self.messages.get(place) {
             Some(entry) => self.names.row(alloc, entry),
             None => Ok(None),
         }
@@ -50,11 +51,12 @@ impl MessageIndex {
     pub fn number_behind(&self, number: u64, most: u16) -> u64
         ensures { (ms : List MessageRowOf) (ps : List PartRowOf) → Represents self.now ms ps → result ≡ next_from number most ms }
     {
-        match self
-            .messages
-            .rows_from(Key::of(number))
-            .get(usize::from(most))
-        {
+        let start = self.messages.place_of(Key::of(number));
+        let most = usize::from(most);
+        if self.messages.len() - start <= most {
+            return 0;
+        }
+        match self.messages.get(start + most) {
             Some(entry) => entry.id.number(),
             None => 0,
         }
@@ -64,18 +66,28 @@ impl MessageIndex {
     pub fn count_parts(&self, id: MessageId) -> usize
         ensures { (ms : List MessageRowOf) (ps : List PartRowOf) → Represents self.now ms ps → result ≡ count_parts id ps }
     {
+        let places = self.places_of_parts(id);
+        places.end - places.start
+    }
+
+    // Where the parts of the message stand; their numbers are 1 to 20.
+    fn places_of_parts(&self, id: MessageId) -> PartPlaces
+        ensures order { result.start ≤ result.end }
+        ensures bound { result.end ≤ length self.now.parts.rows }
+        ensures rows { rows_between entry_key (pair_key id 0) (pair_key id 255) self.now.parts.rows
+            ≡ slice_range self.now.parts.rows result.start result.end }
+    {
         let number = id.number();
-        let parts = self
-            .parts
-            .rows_between(Key::pair(number, 0), Key::pair(number, 255));
-        parts.len()
+        let start = self.parts.place_of(Key::pair(number, 0));
+        let end = self.parts.place_of(Key::pair(number, 255));
+        PartPlaces { start, end }
     }
 
     /// Whether a later message gives the next number, and was submitted no earlier.
     pub fn leaves_number(&self, message: &MessageRow) -> bool
         ensures { (ms : List MessageRowOf) (ps : List PartRowOf) → Represents self.now ms ps → result ≡ leaves_number message.now ms }
     {
-        match self.messages.as_slice().last() {
+        match self.messages.last() {
             Some(last) => is_before(message, last),
             None => false,
         }
@@ -104,26 +116,45 @@ impl MessageIndex {
         ensures { OnOk result (claims.new.items ≡ claims.old.items ++ claims_of_entries message.now
             (rows_between entry_key (pair_key message.now.id 0) (pair_key message.now.id 255) self.now.parts.rows)) }
     {
-        let number = message.id.number();
-        let parts = self
-            .parts
-            .rows_between(Key::pair(number, 0), Key::pair(number, 255));
-        add_claims_of(message, parts, claims)?;
+        let places = self.places_of_parts(message.id);
+        self.add_claims_at(message, places, claims)?;
         Ok(())
     }
-}
 
-fn add_claims_of(
-    message: &MessageRow,
-    parts: &[PartEntry],
-    claims: &mut Vec<Claim>,
-) -> Result<(), AllocError>
-    ensures { OnOk result (claims.new.items ≡ claims.old.items ++ claims_of_entries message.now parts.now) }
-{
-    for part in parts {
-        add_claim_of_header(message, &part.key, claims)?;
+    // What the parts at these places lay claim to.
+    fn add_claims_at(
+        &self,
+        message: &MessageRow,
+        places: PartPlaces,
+        claims: &mut Vec<Claim>,
+    ) -> Result<(), AllocError>
+        ensures { OnOk result (claims.new.items ≡ claims.old.items ++ claims_of_entries message.now
+            (slice_range self.now.parts.rows places.start places.end)) }
+    {
+        for place in places.start..places.end {
+            self.add_claim_at(message, place, claims)?;
+        }
+        Ok(())
     }
-    Ok(())
+
+    // What the part at that place lays claim to, if there is one.
+    fn add_claim_at(
+        &self,
+        message: &MessageRow,
+        place: usize,
+        claims: &mut Vec<Claim>,
+    ) -> Result<(), AllocError>
+        ensures { OnOk result (claims.new.items ≡ claims.old.items ++ claims_of_entries message.now
+            (slice_range self.now.parts.rows place (place + 1))) }
+    {
+        match self.parts.get(place) {
+            Some(part) => {
+                add_claim_of_header(message, &part.key, claims)?;
+                Ok(())
+            }
+            None => Ok(()),
+        }
+    }
 }
 
 // The reference that the centre gave, where not all of it was delivered.

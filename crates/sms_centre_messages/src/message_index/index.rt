@@ -16,7 +16,7 @@ use crate::message_index::parts_draft::{PartsPlan, adopt_parts};
 use sms_base::{Listed, MessageId, Moment};
 use sms_centre_rows::messages::{MessageRow, PartEntry};
 use sms_rows::expiry::{Deadline, Deadlines, DeadlinesReserve};
-use sms_rows::table::{Change, Key, Table, TableReserve, are_removals};
+use sms_rows::table::{Change, Key, RollingTable, TableReserve, are_removals};
 use std::alloc::{AllocError, Global};
 use std::marker::Model;
 
@@ -24,8 +24,8 @@ use std::marker::Model;
 #[derive(Drop)]
 pub struct MessageIndex {
     pub(crate) names: Names,
-    pub(crate) messages: Table<MessageEntry>,
-    pub(crate) parts: Table<PartEntry>,
+    pub(crate) messages: RollingTable<MessageEntry>,
+    pub(crate) parts: RollingTable<PartEntry>,
     pub(crate) deadlines: Deadlines,
 }
 
@@ -72,8 +72,8 @@ impl MessageIndex {
         ensures { Represents result [] [] }
     {
         let names = Names::new(alloc);
-        let messages = Table::new(alloc);
-        let parts = Table::new(alloc);
+        let messages = RollingTable::new(alloc);
+        let parts = RollingTable::new(alloc);
         let deadlines = Deadlines::new(alloc);
         MessageIndex {
             names,
@@ -87,7 +87,7 @@ impl MessageIndex {
     pub fn next_id(&self) -> u64
         ensures { (ms : List MessageRowOf) (ps : List PartRowOf) → Represents self.now ms ps → result ≡ next_id ms }
     {
-        match self.messages.as_slice().last() {
+        match self.messages.last() {
             Some(entry) => entry.id.number() + 1,
             None => 1,
         }
@@ -271,7 +271,8 @@ impl MessageIndex {
         }
     }
 
-    // Carries the changes out in their order. Several removals alone cost one pass.
+    // Carries the changes out in their order. Removals alone go one by one where few messages stand before them, and cost
+    // at most one pass.
     fn apply_all(&mut self, changes: Vec<Change<MessageRow>>)
         requires { HasRoomFor (length changes.items) self.old }
         ensures { (ms : List MessageRowOf) (ps : List PartRowOf) → Represents self.old ms ps

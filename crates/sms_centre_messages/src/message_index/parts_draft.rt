@@ -1,26 +1,26 @@
 //! The parts in the middle of an event, found at once however many of them it changed.
-ghost use Rattle.std.specs.Prelude.{◌≡◌, [], OnOk, IfOk, option_copied};
+ghost use Rattle.std.specs.Prelude.{◌≡◌, ◌+◌, ◌≤◌, [], length, OnOk, IfOk, option_copied};
 ghost use Rattle.std.specs.Option.{option_map};
 ghost use Rattle.sms_centre_messages.specs.message_index.Puts.{newest_put, tpdu_of};
 ghost use Rattle.sms_centre_messages.specs.message_index.Removing.{removing};
 ghost use Rattle.sms_centre_rows.specs.messages.PartEntries.{amending, done_to, entry_key, is_done_entry, putting, rows_now};
 ghost use Rattle.sms_rows.specs.table.Keys.{pair_key};
 ghost use Rattle.sms_rows.specs.table.TableDraft.{FitsIn};
-ghost use Rattle.sms_rows.specs.table.Table.{all_applied, row_at};
+ghost use Rattle.sms_rows.specs.table.Table.{HasRoom, all_applied, applied, row_at};
 
 use crate::message_index::changes::NewestChanges;
 use crate::message_index::part_changes::PartChanges;
 use sms_base::MessageId;
 use sms_centre_rows::messages::{PartEntry, PartRow};
 use sms_centre_rows::waiting::{Progress, Revision};
-use sms_rows::table::{Change, Key, Row, Table, TableReserve};
+use sms_rows::table::{Change, Key, RollingTable, Row, TableReserve, are_removals};
 use std::alloc::{AllocError, Global};
 use std::marker::Model;
 
 // The parts in the middle of an event, and what it changed of them.
 #[derive(Drop)]
 pub(crate) struct PartsDraft<'a> {
-    base: &'a Table<PartEntry>,
+    base: &'a RollingTable<PartEntry>,
     entries: NewestChanges<PartEntry>,
     changes: PartChanges,
 }
@@ -58,7 +58,7 @@ pub(crate) struct PartsOutcome {
 
 impl<'a> PartsDraft<'a> {
     // The parts as an event begins.
-    pub(crate) fn of(alloc: Global, base: &'a Table<PartEntry>) -> PartsDraft<'a>
+    pub(crate) fn of(alloc: Global, base: &'a RollingTable<PartEntry>) -> PartsDraft<'a>
         ensures { result ≡ record { entries = record { base = base.entry.now; changes = [] }; changes = [] } }
     {
         PartsDraft {
@@ -131,7 +131,7 @@ impl<'a> PartsDraft<'a> {
     pub(crate) fn settle(
         self,
         alloc: Global,
-        table: &Table<PartEntry>,
+        table: &RollingTable<PartEntry>,
     ) -> Result<PartsOutcome, AllocError>
         ensures changes { IfOk result (λ s. (s.entries.changes ≡ self.entry.entries.changes) × (s.changes.items ≡ self.entry.changes)) }
         ensures fits { IfOk result (λ s. FitsIn s.entries table.now) }
@@ -153,12 +153,52 @@ impl<'a> PartsDraft<'a> {
 }
 
 // Puts the changes in, without taking memory.
-pub(crate) fn adopt_parts(table: &mut Table<PartEntry>, left: PartsPlan)
+pub(crate) fn adopt_parts(table: &mut RollingTable<PartEntry>, left: PartsPlan)
     requires { FitsIn left table.old }
     ensures { table.new.rows ≡ all_applied entry_key left.changes table.old.rows }
 {
     table.use_reserve(left.reserve);
-    table.apply_all(left.changes);
+    apply_all(table, left.changes);
+}
+
+// Carries the changes out in their order. Removals alone go one by one where few parts stand before them, and cost at most
+// one pass.
+fn apply_all(table: &mut RollingTable<PartEntry>, changes: Vec<Change<PartEntry>>)
+    requires { HasRoom (length changes.items) table.old }
+    ensures { table.new.rows ≡ all_applied entry_key changes.items table.old.rows }
+{
+    if changes.len() < 2 {
+        apply_each(table, changes);
+        return;
+    }
+    if are_removals(changes.as_slice()) {
+        table.remove_all(changes.as_slice());
+        drop(changes);
+        return;
+    }
+    apply_each(table, changes);
+}
+
+fn apply_each(table: &mut RollingTable<PartEntry>, changes: Vec<Change<PartEntry>>)
+    requires { HasRoom (length changes.items) table.old }
+    ensures { table.new.rows ≡ all_applied entry_key changes.items table.old.rows }
+{
+    for change in changes {
+        apply(table, change);
+    }
+}
+
+fn apply(table: &mut RollingTable<PartEntry>, change: Change<PartEntry>)
+    requires { HasRoom 1 table.old }
+    ensures rows { table.new.rows ≡ applied entry_key change table.old.rows }
+    ensures capacity { table.old.capacity ≤ table.new.capacity }
+{
+    match change {
+        Change::Put(row) => table.put_ready(row),
+        Change::Remove(key) => {
+            table.remove(key);
+        }
+    }
 }
 
 // Whether it is done, if it is there.

@@ -11,7 +11,7 @@ use crate::message_index::copying::copy_of;
 use crate::message_index::index::MessageIndex;
 use sms_centre_rows::messages::{MessageRow, PartEntry, PartRow};
 use sms_rows::expiry::Deadline;
-use sms_rows::table::Table;
+use sms_rows::table::RollingTable;
 use std::alloc::{AllocError, Global};
 
 impl MessageIndex {
@@ -62,7 +62,7 @@ impl MessageIndex {
     {
         let entries = entries_of(alloc, parts)?;
         let mut index = MessageIndex::new(alloc);
-        index.parts = Table::from_vec(entries);
+        index.parts = RollingTable::from_vec(entries);
         Ok(index)
     }
 

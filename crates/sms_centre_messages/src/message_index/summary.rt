@@ -26,14 +26,14 @@ impl MessageIndex {
     pub fn len(&self) -> usize
         ensures { (ms : List MessageRowOf) (ps : List PartRowOf) → Represents self.now ms ps → result ≡ length ms }
     {
-        self.messages.as_slice().len()
+        self.messages.len()
     }
 
     /// The message at that place, in the order of numbers, from place 0 on.
     pub fn summary(&self, place: usize) -> Option<MessageSummary>
         ensures { (ms : List MessageRowOf) (ps : List PartRowOf) → Represents self.now ms ps → result ≡ option_map summary_of (slice_get ms place) }
     {
-        match self.messages.as_slice().get(place) {
+        match self.messages.get(place) {
             Some(entry) => self.names.summary(entry),
             None => None,
         }

@@ -278,15 +278,15 @@ module _ (number : ℕ) (tag : Holder) (d : Draft) (w : World) (sound : SoundSto
   kind_law frame Data r tpdu way c sent =
       subst ReportsStep (sym (data_is frame link.near_end.links c.transaction c.unit FromOriginator c.frame c.flag))
       (opening_law frame c.transaction c.unit c.frame.value.0 r tpdu c.unit_is
-      (subst (λ (z : LineOf). Among (Carried (record { number = number; handset = link.handset; line = z; kind = Data; reference = r; tpdu = tpdu; tag = tag })) w.bag) c.link sent))
+      (subst (λ (z : LineOf). Among (Carried (record { number = number; handset = link.handset; line = z; kind = Data; reference = r; tpdu = tpdu; tag = tag })) w.bag) c.line sent))
   kind_law frame Ack r tpdu way c sent =
       let there : Among (Carried (ack_up link.handset number r tpdu tag)) w.bag =
-      subst (λ (z : LineOf). Among (Carried (record { number = number; handset = link.handset; line = z; kind = Ack; reference = r; tpdu = tpdu; tag = tag })) w.bag) c.link sent in
+      subst (λ (z : LineOf). Among (Carried (record { number = number; handset = link.handset; line = z; kind = Ack; reference = r; tpdu = tpdu; tag = tag })) w.bag) c.line sent in
       subst ReportsStep (sym (data_is frame link.near_end.links c.transaction c.unit ToOriginator c.frame c.flag))
       (λ gives. answer_law frame c.transaction c.unit c.frame.value.0 (Ok (AckUnit r c.unit_is.0)) c.unit_is.1 (ack_law frame c.transaction c.unit c.frame.value.0 r tpdu c.unit_is.0 there))
   kind_law frame Error r tpdu way c sent =
       let there : Among (Carried (error_up link.handset number r tpdu tag)) w.bag =
-      subst (λ (z : LineOf). Among (Carried (record { number = number; handset = link.handset; line = z; kind = Error; reference = r; tpdu = tpdu; tag = tag })) w.bag) c.link sent in
+      subst (λ (z : LineOf). Among (Carried (record { number = number; handset = link.handset; line = z; kind = Error; reference = r; tpdu = tpdu; tag = tag })) w.bag) c.line sent in
       subst ReportsStep (sym (data_is frame link.near_end.links c.transaction c.unit ToOriginator c.frame c.flag))
       (λ gives. answer_law frame c.transaction c.unit c.frame.value.0 (Ok (ErrorUnit r c.unit_is.0 c.unit_is.1)) c.unit_is.2
       (error_law frame c.transaction c.unit c.frame.value.0 r tpdu c.unit_is.0 c.unit_is.1 there))

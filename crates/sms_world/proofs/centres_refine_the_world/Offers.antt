@@ -120,7 +120,7 @@ module _ (m : ℕ) (b : World) (d : Draft) (w : World) (sound : SoundStore d.sto
         let v : World = record w { bag = x ∷ w.bag } in
         let after_turn : Step → Draft = λ (z : Step). record d {
           links = record d.links {
-            links = with_link (link_turned (turn_started c z link.near_end) link) d.links.all;
+            all = with_link (link_turned (turn_started c z link.near_end) link) d.links.all;
             frames = d.links.frames ++ to_handset link.handset (carrying (Some c) z.out.frames);
             read = read;
           };

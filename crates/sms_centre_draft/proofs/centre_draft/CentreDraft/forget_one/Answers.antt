@@ -1,4 +1,4 @@
-use Rattle.std.proofs.Common.{◌≡◌, sym, ◌∙◌, subst}
+use Rattle.std.proofs.Common.{sym, ◌∙◌, subst}
 use Rattle.sms_centre_messages.specs.message_index.MessageIndex.{DraftRepresents as RepresentsMessages}
 use Rattle.sms_centre_reports.specs.open_reports.OpenReportsDraft.{DraftRepresents}
 use Rattle.sms_centre_draft.specs.CentreDraft.{CentreDraftOf}

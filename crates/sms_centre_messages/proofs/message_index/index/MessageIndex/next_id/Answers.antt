@@ -1,6 +1,4 @@
-use Rattle.std.proofs.Common.{◌≡◌, ℕ, ◌+◌, ◌-◌, List, length, Some, None, sym, ◌∙◌, ap, subst}
-use Rattle.std.specs.List.{slice_get}
-use Rattle.sms_centre_messages.specs.declared.message_index.message_entry.MessageEntry.{MessageEntry}
+use Rattle.std.proofs.Common.{ℕ, ◌+◌, sym, ◌∙◌, ap, subst}
 use Rattle.sms_centre_messages.specs.message_index.MessageIndex.{Represents, MessageIndexOf}
 use Rattle.sms_centre_messages.proofs.message_index.IndexRepresents.{next_none, next_some}
 use Rattle.sms_centre_messages.proofs.message_index.index.MessageIndex.next_id.Goals as goal
@@ -8,10 +6,10 @@ use Rattle.sms_centre_messages.proofs.message_index.index.MessageIndex.next_id.G
 pub returns-in-Some : goal.returns-in-Some
 returns-in-Some c = λ ms ps h.
     ap (λ (n : ℕ). n + 1) c.number.ensures.value
-    ∙ next_some (record { names = c.self.inside.names; messages = c.self.inside.messages; parts = c.self.inside.parts; deadlines = c.self.inside.deadlines }) ms ps c.in-Some.entry.now (subst (λ (k : MessageIndexOf). Represents k ms ps) (sym c.self.view_is) h)
-    (subst (λ (es : List MessageEntry). slice_get es (length es - 1) ≡ Some c.in-Some.entry.now) c.as_slice.ensures.rows (sym c.in-Some.ensures.value))
+    ∙ next_some (record { names = c.self.inside.names; messages = c.self.inside.messages; parts = c.self.inside.parts; deadlines = c.self.inside.deadlines }) ms ps c.in-Some.entry.now
+    (subst (λ (k : MessageIndexOf). Represents k ms ps) (sym c.self.view_is) h) (sym c.in-Some.ensures)
 
 pub returns-in-None : goal.returns-in-None
 returns-in-None c = λ ms ps h.
-    next_none (record { names = c.self.inside.names; messages = c.self.inside.messages; parts = c.self.inside.parts; deadlines = c.self.inside.deadlines }) ms ps (subst (λ (k : MessageIndexOf). Represents k ms ps) (sym c.self.view_is) h)
-    (subst (λ (es : List MessageEntry). slice_get es (length es - 1) ≡ None) c.as_slice.ensures.rows (sym c.in-None.ensures.value))
+    next_none (record { names = c.self.inside.names; messages = c.self.inside.messages; parts = c.self.inside.parts; deadlines = c.self.inside.deadlines }) ms ps
+    (subst (λ (k : MessageIndexOf). Represents k ms ps) (sym c.self.view_is) h) (sym c.in-None.ensures)

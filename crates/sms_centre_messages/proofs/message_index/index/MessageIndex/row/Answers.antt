@@ -1,13 +1,10 @@
-use Rattle.std.proofs.Common.{◌≡◌, List, Option, Some, None, Result, Ok, Err, sym, ◌∙◌, ap, subst}
+use Rattle.std.proofs.Common.{◌≡◌, Option, Some, Result, Ok, Err, sym, ◌∙◌, subst}
 use Rattle.std.specs.Prelude.{IfOk}
 use Rattle.std.specs.List.{slice_get}
 use Rattle.std.specs.declared.alloc.AllocError.{AllocError}
-use Rattle.std.proofs.lemmas.Option.{slice_get-get_or}
 use Rattle.sms_centre_rows.specs.declared.messages.message.MessageRow.{MessageRow}
-use Rattle.sms_centre_messages.specs.declared.message_index.message_entry.MessageEntry.{MessageEntry}
 use Rattle.sms_centre_messages.specs.message_index.MessageIndex.{Represents, MessageIndexOf}
 use Rattle.sms_centre_messages.proofs.message_index.IndexRepresents.{no_row, placed_row}
-use Rattle.sms_centre_messages.proofs.message_index.Places.{get_beyond}
 use Rattle.sms_centre_messages.proofs.message_index.index.MessageIndex.row.Goals as goal
 
 same_row : (r : Result (Option MessageRow) AllocError) (a b : Option MessageRow) → a ≡ b → IfOk r (λ x. x ≡ a) → IfOk r (λ x. x ≡ b)
@@ -18,12 +15,11 @@ pub returns-in-Some : goal.returns-in-Some
 returns-in-Some c = λ ms ps h.
     let f = placed_row c.self.inside.names c.args.place c.self.inside.messages.rows ms c.in-Some.entry.now
     (subst (λ (k : MessageIndexOf). Represents k ms ps) (sym c.self.view_is) h).messages
-    (subst (λ (es : List MessageEntry). slice_get es c.args.place ≡ Some c.in-Some.entry.now) c.as_slice.ensures.rows
-    (slice_get-get_or c.as_slice.result.now c.args.place c.in-Some.entry.now c.in-Some.ensures.lookup.3.0 ∙ ap (λ (e : MessageEntry). Some e) (sym (c.in-Some.ensures.lookup.3.1 c.in-Some.entry.now)))) in
+    (sym c.in-Some.ensures) in
     same_row c.row.result (Some f.0) (slice_get ms c.args.place) (sym f.1.0) (c.row.ensures f.0 f.1.1)
 
 pub returns-in-None : goal.returns-in-None
 returns-in-None c = λ ms ps h.
     sym (no_row c.self.inside.names c.args.place c.self.inside.messages.rows ms
     (subst (λ (k : MessageIndexOf). Represents k ms ps) (sym c.self.view_is) h).messages
-    (subst (λ (es : List MessageEntry). slice_get es c.args.place ≡ None) c.as_slice.ensures.rows (get_beyond c.as_slice.result.now c.args.place c.in-None.ensures.lookup.3)))
+    (sym c.in-None.ensures))

@@ -40,7 +40,7 @@ returns-clause-found g c clean ours =
     let early : HasCleanDisk (state g.S.Store c.load.new.conn) = omega (arith, clean, c.load_all.ensures.survives.clean) in
     let first = c.in_ok-first.ensures.found early ours.0 in
     let more = c.in_ok-more.ensures.found clean (subst g.More.StoredLists.knows (sym first.0.0.now_is) ours.1) in
-    (unchanged_then _ _ _ first.0 more.0, (first.1, subst (λ db. g.More.StoredLists.finds db _) first.0.0.now_is more.1))
+    (unchanged_then _ _ _ first.0 more.0, (first.1, subst (λ db. g.More.StoredLists.finds db c.in_ok-more.more) first.0.0.now_is more.1))
 
 pub returns-clause-stays : goal.returns-clause-stays
 returns-clause-stays g c clean ours =
