@@ -6,6 +6,8 @@
  *   FAULT_READ_ONLY   the file system can't be written (open for writing and pwrite give EROFS);
  *   FAULT_LOST        a store's disk is lost (statx of a path that ends in .store or -wal gives EIO);
  *   FAULT_UNLOGGED    standard error takes nothing (write to it gives ENOSPC);
+ *   FAULT_UNWRITTEN   who reads a store's log comes before who writes it: of each line "N FROM TO" in the file the Nth opening of a path that
+ *                     ends in -wal reads zeros from octet FROM up to octet TO (read);
  *   FAULT_SLOW        a store's log opens slowly (open of a path that ends in -wal takes five seconds);
  *   FAULT_SLOW_DISK   the disk takes a tenth of a second for a commit (fdatasync and fsync);
  *   FAULT_STUCK_DISK  it takes five seconds.
@@ -14,6 +16,7 @@
 #include <errno.h>
 #include <fcntl.h>
 #include <stdarg.h>
+#include <stdio.h>
 #include <stdlib.h>
 #include <string.h>
 #include <sys/stat.h>
@@ -44,17 +47,24 @@ int clock_gettime(clockid_t clock, struct timespec *moment)
 	return 0;
 }
 
-/* The number in the file of that name, which is there. */
-static long number_in(const char *name)
+/* The text of the file of that name, which is there. */
+static void text_in(const char *name, char *text, size_t room)
 {
-	char digits[16] = "";
 	int file = syscall(SYS_openat, AT_FDCWD, getenv(name), O_RDONLY);
 
+	memset(text, 0, room);
 	if (file >= 0) {
-		if (syscall(SYS_read, file, digits, sizeof digits - 1) < 0)
-			digits[0] = 0;
+		if (syscall(SYS_read, file, text, room - 1) < 0)
+			text[0] = 0;
 		syscall(SYS_close, file);
 	}
+}
+
+static long number_in(const char *name)
+{
+	char digits[16];
+
+	text_in(name, digits, sizeof digits);
 	return atol(digits);
 }
 
@@ -101,6 +111,33 @@ ssize_t pwrite64(int file, const void *octets, size_t count, off_t at)
 	return pwrite(file, octets, count, at);
 }
 
+/* The log that was opened last to be read, and how many were opened so before it. */
+static int log_file = -1;
+static long logs_opened;
+
+/* What these octets of the log were before somebody wrote there. */
+static void unwrite(char *octets, long at, long count)
+{
+	char lines[256], *line = lines;
+	long opening, from, to, place;
+	int length;
+
+	text_in("FAULT_UNWRITTEN", lines, sizeof lines);
+	for (; sscanf(line, "%ld %ld %ld%n", &opening, &from, &to, &length) == 3; line += length)
+		for (place = at; opening == logs_opened && place < at + count; place++)
+			if (from <= place && place < to)
+				octets[place - at] = 0;
+}
+
+ssize_t read(int file, void *octets, size_t count)
+{
+	ssize_t taken = syscall(SYS_read, file, octets, count);
+
+	if (taken > 0 && file == log_file && is_so("FAULT_UNWRITTEN"))
+		unwrite(octets, syscall(SYS_lseek, file, 0, SEEK_CUR) - taken, taken);
+	return taken;
+}
+
 static void turn_disk(void)
 {
 	struct timespec tenth = { .tv_sec = 0, .tv_nsec = TENTH };
@@ -140,13 +177,22 @@ int statx(int folder, const char *path, int flags, unsigned wanted, struct statx
 
 static int opens(int folder, const char *path, int flags, mode_t mode)
 {
+	int file;
+
 	if (ends_in(path, LOG_END) && is_so("FAULT_SLOW"))
 		sleep(5);
 	if ((flags & O_ACCMODE) != O_RDONLY && is_so("FAULT_READ_ONLY")) {
 		errno = EROFS;
 		return -1;
 	}
-	return syscall(SYS_openat, folder, path, flags, mode);
+	file = syscall(SYS_openat, folder, path, flags, mode);
+	if (ends_in(path, LOG_END) && (flags & O_ACCMODE) == O_RDONLY) {
+		log_file = file;
+		logs_opened++;
+	} else if (file == log_file) {
+		log_file = -1;
+	}
+	return file;
 }
 
 #define MODE_OF(flags)				\

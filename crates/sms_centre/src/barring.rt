@@ -1,5 +1,5 @@
 //! The bars that stand for the messages that a centre forgets.
-ghost use Rattle.std.specs.Prelude.{◌≡◌, ◌&&◌, ◌∷◌, [], ◌++◌, List, IfOk, OnOk};
+ghost use Rattle.std.specs.Prelude.{◌≡◌, ◌∷◌, [], ◌++◌, List, IfOk, OnOk};
 ghost use Rattle.std.specs.List.{list_any};
 ghost use Rattle.sms_centre_rows.specs.declared.messages.claim.Claim.{Claim as ClaimOf};
 ghost use Rattle.sms_centre_rows.specs.messages.Bars.{bar_of as bar_of_claim, claims_of, is_barred};

@@ -170,7 +170,7 @@ impl Centre {
     /// What the event leads to, with a store that gives the TPDUs of the present rows. Nothing has changed yet.
     ///
     /// `NoBody`: the store refused to read a body that the event reads. `NoMemory`: a growth was refused, and the store
-    /// refused nothing. A handset that the event names has a number.
+    /// refused nothing.
     pub fn plan<B: BodyKeep>(
         &self,
         event: &CentreEvent<'_>,

@@ -1,5 +1,5 @@
 //! A centre that is lent.
-ghost use Rattle.std.specs.Prelude.{◌≡◌, IfErr, IfOk};
+ghost use Rattle.std.specs.Prelude.{IfErr, IfOk};
 ghost use Rattle.std.specs.Fn.{FnOnceReturnsAtMut};
 ghost use Rattle.sms_centre_spec.specs.CentreEvent.{started};
 ghost use Rattle.sms_centre_spec.specs.SoundCore.{AreDifferent};

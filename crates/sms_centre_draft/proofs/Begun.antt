@@ -1,5 +1,5 @@
 -- An event begins.
-use Rattle.std.proofs.Common.{◌≡◌, ℕ, [], None, refl, sym, ◌∙◌, ap, subst}
+use Rattle.std.proofs.Common.{◌≡◌, ℕ, [], None, refl, ◌∙◌, ap}
 use Rattle.sms_centre_messages.specs.message_index.MessageIndex.{MessageIndexOf, MessageIndexDraftOf as MessagesOf, DraftRepresents as RepresentsMessages, opened}
 use Rattle.sms_centre_reports.specs.open_reports.OpenReports.{OpenReportsOf}
 use Rattle.sms_centre_reports.specs.open_reports.OpenReportsDraft.{OpenReportsDraftOf as ReportsNow, DraftRepresents}

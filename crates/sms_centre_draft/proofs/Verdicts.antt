@@ -18,7 +18,7 @@ use Rattle.sms_intake.specs.declared.submission.SinglePart.{SinglePart}
 use Rattle.sms_intake.specs.declared.submission.Submission.{Submission}
 use Rattle.sms_intake.specs.PartBodies.{bodies_under, is_long}
 use Rattle.sms_centre_spec.specs.Consistent.{IsConsistent, IsSubmission}
-use Rattle.sms_centre_spec.specs.Draft.{Draft, Store, bars_in, in_store, messages_in, parts_in, rows_of, waiting_in}
+use Rattle.sms_centre_spec.specs.Draft.{Draft, Store, answer_with, bars_in, in_store, messages_in, parts_in, rows_of, waiting_in}
 use Rattle.sms_centre_draft.specs.Judging.{can_be_accepted, judged, parts_for, room_for_parts}
 use Rattle.sms_centre_spec.specs.MessageNumbers.{next_number}
 use Rattle.sms_centre_spec.specs.Receiving.{confirm, is_duplicate, is_of_reference, is_pending_double, refuse, submit_accepted, submit_received}
@@ -149,15 +149,26 @@ submission_alone u account s from e = other (is_reference_taken u s) (can_be_acc
     other false true r = r
     other false false r = absurd cc
 
+-- what is not too much was accepted
+was_accepted : (u : Submission) (o : Option Store) (e : Store) → unless_too_much u o ≡ Some e → o ≡ Some e
+was_accepted u None e is = absurd cc
+was_accepted u (Some x) e is = by (takes_too_much u.originator (messages_in x) (waiting_in u.handset x)) is
+  where
+    by : (b : Bool) → cond b None (Some x) ≡ Some e → Some x ≡ Some e
+    by true q = absurd cc
+    by false q = q
+
 pub submission_accepted : (u : Submission) (account : List ℕ) (d : Draft) (id : ℕ) → IsConsistent d.store → IsSubmission u → u.originator ≡ Application account → judged u d.store ≡ Ok id
-    → (submission_received (Ok u) d).answer ≡ Some (Submitted id)
+    → (s : Store) × ((accept u d.store ≡ Some s) × (submission_received (Ok u) d ≡ answer_with (Submitted id) (in_store s d)))
 submission_accepted u account d id consistent is from e =
     let s : Store = d.store in
     let n : ℕ = next_number (rows_of s) in
     let k = accepts (is_duplicate u s) (is_reference_taken u s) (can_be_accepted u s) n id e in
     let g = judged_in u s consistent is k.2 in
-    ap (λ (b : Bool). (cond b (refused ESME_RSUBMITFAIL d) (accepted n (unless_too_much u (accept u s)) d)).answer) k.1
-    ∙ ap (λ (o : Option Store). (accepted n o d).answer) g.1 ∙ ap (λ (m : ℕ). Some (Submitted m)) k.3
+    let answered : submission_received (Ok u) d ≡ answer_with (Submitted id) (in_store g.0 d) =
+    ap (λ (b : Bool). cond b (refused ESME_RSUBMITFAIL d) (accepted n (unless_too_much u (accept u s)) d)) k.1
+    ∙ ap (λ (o : Option Store). accepted n o d) g.1 ∙ ap (λ (m : ℕ). answer_with (Submitted m) (in_store g.0 d)) k.3 in
+    (g.0, (was_accepted u (accept u s) g.0 g.1, answered))
 
 pub submission_taken : (u : Submission) (account : List ℕ) (d : Draft) → IsConsistent d.store → IsSubmission u → u.originator ≡ Application account → judged u d.store ≡ Err ReferenceTaken
     → submission_received (Ok u) d ≡ refused ESME_RSUBMITFAIL d

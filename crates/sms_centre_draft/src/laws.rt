@@ -7,7 +7,7 @@ ghost use Rattle.sms_intake.specs.declared.refusal.SubmitRefusal.{SubmitRefusal}
 ghost use Rattle.sms_intake.specs.declared.refusal.SubmitRefusal.TheVariants.{Congested, Duplicate, ReferenceTaken};
 ghost use Rattle.sms_intake.specs.declared.submission.Submission.{Submission};
 ghost use Rattle.sms_centre_spec.specs.Consistent.{IsConsistent, IsSubmission};
-ghost use Rattle.sms_centre_spec.specs.Draft.{Draft, Store, in_store};
+ghost use Rattle.sms_centre_spec.specs.Draft.{Draft, Store, answer_with, in_store};
 ghost use Rattle.sms_centre_draft.specs.Judging.{judged};
 ghost use Rattle.sms_centre_spec.specs.Receiving.{confirm, refuse, submit_received};
 ghost use Rattle.sms_centre_spec.specs.Requests.{refused, submission_received};
@@ -18,7 +18,8 @@ ghost use Rattle.sms_centre_spec.specs.declared.answer.CentreAnswer.TheVariants.
 /// of that verdict, and nothing else changes. No verdict on it is that it is a duplicate.
 pub fn a_submission_is_judged_by_the_rows()
     ensures accepted { (u : Submission) (account : List ℕ) (d : Draft) (id : ℕ) → IsConsistent d.store → IsSubmission u → u.originator ≡ Application account
-        → judged u d.store ≡ Ok id → (submission_received (Ok u) d).answer ≡ Some (Submitted id) }
+        → judged u d.store ≡ Ok id
+        → (s : Store) × ((accept u d.store ≡ Some s) × (submission_received (Ok u) d ≡ answer_with (Submitted id) (in_store s d))) }
     ensures taken { (u : Submission) (account : List ℕ) (d : Draft) → IsConsistent d.store → IsSubmission u → u.originator ≡ Application account
         → judged u d.store ≡ Err ReferenceTaken → submission_received (Ok u) d ≡ refused ESME_RSUBMITFAIL d }
     ensures congested { (u : Submission) (account : List ℕ) (d : Draft) → IsConsistent d.store → IsSubmission u → u.originator ≡ Application account

@@ -1,2 +1,3 @@
 pub mod Archiving
 pub mod Loading
+pub mod Saving

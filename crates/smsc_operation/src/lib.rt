@@ -10,6 +10,7 @@
 //! - `account_file`: the accounts that a file spells
 //! - `account_names`: the names of a run's accounts
 //! - `archive`: the file to which a run writes what it forgets
+//! - `copied_log`: the log of a copy, which somebody may have written meanwhile
 //! - `feed`: what the threads of a run give to the thread of its status page
 //! - `gone`: how many messages a run has forgotten
 //! - `ledger`: a file of lines that grows at its end
@@ -35,6 +36,7 @@ pub mod access;
 pub mod account_file;
 pub mod account_names;
 pub mod archive;
+mod copied_log;
 pub mod feed;
 pub mod gone;
 pub mod ledger;

@@ -61,7 +61,8 @@ fn files_fault(fault: FilesFault) -> StoreFault {
     }
 }
 
-fn run_fault(fault: FilesFault) -> RunFault {
+/// Why a run, or a copy, can't have what the files gave.
+pub(crate) fn run_fault(fault: FilesFault) -> RunFault {
     match fault {
         FilesFault::NoMemory => RunFault::NoMemory,
         fault => RunFault::Store(files_fault(fault)),

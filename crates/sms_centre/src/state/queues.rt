@@ -27,7 +27,6 @@ fn fill(
     are_up: bool,
     queues: &mut DeliveryQueuesDraft,
 ) -> Result<(), AllocError>
-    requires sound { IsSound (rows_of tables.now) }
     requires apart { AreDifferent handsets.now }
     ensures { OnOk result ((g : Allocations) → DraftRepresents g (record { all = []; frames = []; read = [] }) (λ number. []) queues.old
         → DraftRepresents g (record { all = links_of are_up handsets.now; frames = []; read = [] })
@@ -71,7 +70,6 @@ fn load(
     now: Moment,
     queues: &DeliveryQueues,
 ) -> Result<DeliveryQueuesPlan, AllocError>
-    requires sound { IsSound (rows_of tables.now) }
     requires apart { AreDifferent handsets.now }
     ensures fits { IfOk result FitsTheQueues }
     ensures consistent { IfOk result (λ settled. (new : DeliveryQueuesOf)

@@ -263,6 +263,7 @@ impl DeliveryQueuesDraft {
         ensures placed { OnOk result (placed.new ≡ with_queue (queue_with queued
             (queue_given (or_new_handset placed.old.queue.link.handset self.old.next_place placed.old.queue.row)
             queued.reference now placed.old.queue)) placed.old) }
+        ensures octet { queued.reference < 256 }
     {
         self.give_there(placed, queued.reference, now)?;
         placed.queue.put(queued)

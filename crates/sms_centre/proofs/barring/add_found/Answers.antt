@@ -1,4 +1,4 @@
-use Rattle.std.proofs.Common.{◌≡◌, sym, subst}
+use Rattle.std.proofs.Common.{sym, subst}
 use Rattle.sms_centre.specs.state.CentreState.{CentreStateOf, Represents as StateRepresents}
 use Rattle.sms_centre.proofs.MayGo.{few_parts}
 use Rattle.sms_centre.proofs.barring.add_found.Goals as goal

@@ -1,4 +1,4 @@
-use Rattle.std.proofs.Common.{◌≡◌, List, ◌++◌, ◌∙◌, ap}
+use Rattle.std.proofs.Common.{List, ◌++◌, ◌∙◌, ap}
 use Rattle.sms_centre_rows.specs.declared.messages.claim.Claim.{Claim}
 use Rattle.sms_centre_spec.specs.forgetting.Forget.{bars_put, claims_by}
 use Rattle.sms_centre.proofs.barring.bars_behind.Goals as goal

@@ -1,4 +1,4 @@
-use Rattle.std.proofs.Common.{◌≡◌, sym, ◌∙◌}
+use Rattle.std.proofs.Common.{sym, ◌∙◌}
 use Rattle.sms_centre.proofs.Barred.{kept_on, on_ok_turned, put_on}
 use Rattle.sms_centre.proofs.barring.keep.Goals as goal
 

@@ -1,6 +1,6 @@
-use Rattle.std.proofs.Common.{◌≡◌, sym, ◌∙◌, ap, subst, inl}
+use Rattle.std.proofs.Common.{◌∙◌, ap, subst, inl}
 use Rattle.std.proofs.lemmas.Result.{err_from_is_err_and}
-use Rattle.sms_centre_spec.specs.Draft.{Core, rows_after}
+use Rattle.sms_centre_spec.specs.Draft.{rows_after}
 use Rattle.sms_centre_spec.specs.declared.rows.Changes.{Changes}
 use Rattle.sms_centre_spec.specs.declared.rows.Rows.{Rows}
 use Rattle.sms_centre.proofs.Archived.{rows_left}

@@ -1,4 +1,4 @@
-use Rattle.std.proofs.Common.{◌≡◌, ◌∙◌, List, ℕ, refl, sym, ap, subst}
+use Rattle.std.proofs.Common.{◌≡◌, ◌∙◌, refl, sym, ap, subst}
 use Rattle.std.specs.Prelude.{option_map}
 use Rattle.sms_centre_queue.specs.queues.Queues.{DeliveryQueuesDraftOf, at, under}
 use Rattle.sms_centre_queue.specs.queues.Representing.{DraftRepresents}
