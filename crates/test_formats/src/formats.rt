@@ -3,6 +3,8 @@
 #[cfg(test)]
 mod base;
 #[cfg(test)]
+mod rolling;
+#[cfg(test)]
 mod table;
 #[cfg(test)]
 mod tpdu;
