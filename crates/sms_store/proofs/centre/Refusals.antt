@@ -76,7 +76,7 @@ module _ (tables : Schema) (own : ℕ) (less : own < 3) (db : Database) where
 
   refuses_so : (SaysOf 3 (Err OldVersion) → IsOld 3 db) → (SaysOf own (Err NotThisStore) → IsOther db) → (error : KeepError) → RefusesEarlier tables error db → Refuses 3 error db
   refuses_so old other error (inl h) =
-      refuses_for (λ _. SaysOf 3 (Err OldVersion)) (λ _. SaysOf 3 (Err NotThisStore)) (IsOld 3) IsOther db old
+      refuses_for (Says tables (meta_list_in tables) Centre 3 (Err OldVersion)) (Says tables (meta_list_in tables) Centre 3 (Err NotThisStore)) (IsOld 3) IsOther db old
       (λ says. other (record { tables = says.tables; said = λ said held. other_judged 3 own less said (says.said said held) })) error h
   refuses_so old other error (inr later) =
       subst (λ e. Refuses 3 e db) (sym later.0)
