@@ -1,7 +1,6 @@
 -- What a centre asks of a message before it forgets it, by the definition's words.
-use Rattle.std.proofs.Common.{◌≡◌, ℕ, zero, suc, ◌+◌, ◌-◌, ◌<◌, ◌≤◌, List, [], ◌∷◌, ◌++◌, map, length, get_or, drop, add-one, Bool, true, false, Option, Some, None, Result, Ok, Err, refl, sym, ◌∙◌, ap, subst, inl, inr, ⊎_elim, arith}
-use Rattle.std.specs.Prelude.{◌⊎◌, ◌==◌, ◌||◌, slice_get, if◌then◌else◌, IfOk}
-use Rattle.std.proofs.lemmas.Option.{get_or_from_slice_get, slice_get-get_or}
+use Rattle.std.proofs.Common.{◌≡◌, ℕ, zero, suc, ◌+◌, ◌-◌, List, [], ◌∷◌, ◌++◌, drop, add-one, Bool, true, false, Option, Some, None, refl, sym, ◌∙◌, ap, subst, inl, inr, ⊎_elim, arith}
+use Rattle.std.specs.Prelude.{◌⊎◌, ◌==◌, ◌||◌, slice_get, if◌then◌else◌}
 use Rattle.std.proofs.lemmas.Bool.{cases_Bool, eqb-true, or_left, or_right}
 use Rattle.sms_base.proofs.Bools.{same_bool}
 use Rattle.sms_base.specs.Among.{Among}
@@ -9,20 +8,13 @@ use Rattle.sms_base.specs.declared.carried.Carried.{Carried}
 use Rattle.sms_base.specs.declared.holder.Holder.{Holder}
 use Rattle.sms_base.specs.declared.holder.Holder.TheVariants.{Part, Report, Entry, Memory}
 use Rattle.sms_base.specs.Msisdn.{IsMsisdn}
-use Rattle.sms_rows.specs.table.Table.{AllAbove, Rises, RowsInMemory}
+use Rattle.sms_rows.specs.table.Table.{Rises}
 use Rattle.sms_rows.proofs.table.Tables.{among_found}
 use Rattle.sms_centre_rows.specs.declared.messages.message.MessageRow.{MessageRow}
-use Rattle.sms_centre_rows.specs.declared.reports.report.ReportRow.{ReportRow}
 use Rattle.sms_centre_rows.specs.declared.waiting.handset_link.HandsetLink.{HandsetLink}
 use Rattle.sms_centre_rows.specs.messages.Messages.{message_at, message_key}
 use Rattle.sms_centre_rows.specs.messages.PartEntries.{Few}
 use Rattle.sms_centre_rows.specs.waiting.Links.{link_at, link_of, or_new_link_to}
-use Rattle.sms_centre_reports.specs.declared.report_log.by_message.MessageReport.{MessageReport}
-use Rattle.sms_centre_reports.specs.declared.report_log.log.LoggedReport.{LoggedReport}
-use Rattle.sms_centre_reports.specs.report_log.ByMessage.{reports_between}
-use Rattle.sms_centre_reports.proofs.report_log.Finding.{found_report}
-use Rattle.sms_centre_draft.specs.Forgetting.{ArePlaced, found_place}
-use Rattle.sms_centre_reports.specs.report_log.ReportLog.{made_report}
 use Rattle.sms_centre_spec.specs.Draft.{Core}
 use Rattle.sms_centre_spec.specs.SoundCore.{IsSentFor, IsSoundCore, IsUnderWay}
 use Rattle.sms_centre_spec.specs.forgetting.Forget.{is_carried, is_held_for, is_on_way}
@@ -127,56 +119,3 @@ got_among (x ∷ xs) (suc n) m e = inr (got_among xs n m e)
 
 pub got_found : (ms : List MessageRow) (n : ℕ) (m : MessageRow) → Rises message_key ms → slice_get ms n ≡ Some m → message_at m.id ms ≡ Some m
 got_found ms n m rises e = among_found message_key m ms rises (got_among ms n m e)
-
--- ---- the numbers that go lie between the first and the last
-
-above_all : (n x : ℕ) (ns : List ℕ) → AllAbove (λ (k : ℕ). k) n ns → Among x ns → n < x
-above_all n x [] h a = absurd a
-above_all n x (m ∷ ns) h a = ⊎_elim
-    (λ (e : x ≡ m). let l : n < m = h.0 in omega (arith, l, e))
-    (λ (b : Among x ns). above_all n x ns h.1 b)
-    a
-
-pub low_first : (x : ℕ) (ns : List ℕ) (d : ℕ) → Rises (λ (k : ℕ). k) ns → Among x ns → get_or ns 0 d ≤ x
-low_first x [] d h a = absurd a
-low_first x (n ∷ ns) d h a = ⊎_elim
-    (λ (e : x ≡ n). omega (arith, e))
-    (λ (b : Among x ns). let l = above_all n x ns h.0 b in omega (arith, l))
-    a
-
-pub high_last : (x : ℕ) (ns : List ℕ) (d : ℕ) → Rises (λ (k : ℕ). k) ns → Among x ns → x ≤ get_or ns (length ns - 1) d
-high_last x [] d h a = absurd a
-high_last x (n ∷ []) d h a = ⊎_elim (λ (e : x ≡ n). omega (arith, e)) (λ (b : Among x []). absurd b) a
-high_last x (n ∷ m ∷ ns) d h a =
-    let last : suc (length (m ∷ ns) - 1) ≡ length (n ∷ m ∷ ns) - 1 = omega arith in
-    let same : get_or (m ∷ ns) (length (m ∷ ns) - 1) d ≡ get_or (n ∷ m ∷ ns) (length (n ∷ m ∷ ns) - 1) d = ap (λ (k : ℕ). get_or (n ∷ m ∷ ns) k d) last in
-    subst (λ (k : ℕ). x ≤ k) same (⊎_elim
-    (λ (e : x ≡ n).
-    let l : n < m = h.0.0 in
-    let r : m ≤ get_or (m ∷ ns) (length (m ∷ ns) - 1) d = high_last m (m ∷ ns) d h.1 (inl refl) in
-    let is : x ≤ get_or (m ∷ ns) (length (m ∷ ns) - 1) d = omega (arith, e, l, r) in is)
-    (λ (b : Among x (m ∷ ns)). high_last x (m ∷ ns) d h.1 b)
-    a)
-
--- ---- the places of their reports
-
-pub none_placed : (ids : List ℕ) (found : List MessageReport) (rows : List ReportRow) → length ids ≤ 0 → ArePlaced ids found rows
-none_placed [] found rows l = λ id a. absurd a
-none_placed (x ∷ xs) found rows l = absurd (omega (arith, l))
-
-pub no_end : (ids : List ℕ) → slice_get ids (length ids - 1) ≡ None → length ids ≤ 0
-no_end [] e = omega arith
-no_end (x ∷ xs) e =
-    let some : slice_get (x ∷ xs) (length (x ∷ xs) - 1) ≡ Some (get_or (x ∷ xs) (length (x ∷ xs) - 1) x) = slice_get-get_or (x ∷ xs) (length (x ∷ xs) - 1) x (omega arith) in
-    let bad : Some (get_or (x ∷ xs) (length (x ∷ xs) - 1) x) ≡ None = sym some ∙ e in absurd cc
-
-pub placed_all : {E : Type 0} (ids : List ℕ) (rows : List ReportRow) (log : RowsInMemory LoggedReport) (first last : ℕ) (found : Result (RowsInMemory MessageReport) E)
-    → log.rows ≡ map made_report rows → Rises (λ (k : ℕ). k) ids → first ≡ get_or ids 0 first → slice_get ids (length ids - 1) ≡ Some last
-    → IfOk found (λ f. f.rows ≡ reports_between first (last + 1) log.rows) → IfOk found (λ f. ArePlaced ids f.rows rows)
-placed_all ids rows log first last (Err e) is rises low high h = h
-placed_all ids rows log first last (Ok f) is rises low high h = λ id a.
-    let l = low_first id ids first rises a in
-    let r = high_last id ids last rises a in
-    let end : get_or ids (length ids - 1) last ≡ last = get_or_from_slice_get ids (length ids - 1) last last high in
-    ap (λ (l : List MessageReport). found_place id l) (h ∙ ap (λ (l : List LoggedReport). reports_between first (last + 1) l) is)
-    ∙ found_report first (last + 1) id rows (omega (arith, l, low)) (omega (arith, r, end))

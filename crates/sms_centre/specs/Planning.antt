@@ -1,5 +1,5 @@
 -- A plan as it is in memory, and the memory that it brings.
-use Rattle.std.specs.Prelude.{◌≡◌, ℕ, ◌+◌, ◌≤◌, length, max, Bool, None, Result, Ok, Err}
+use Rattle.std.specs.Prelude.{◌≡◌, ℕ, length, Bool, None, Result, Ok, Err}
 use Rattle.sms_rows.specs.keep.KeepState.{KeepState}
 use Rattle.sms_rows.specs.keep.StoreOutcome.{IfHeld}
 use Rattle.sms_centre_spec.specs.declared.event.CentreEvent.{CentreEvent}
@@ -9,6 +9,7 @@ use Rattle.sms_centre_spec.specs.CentreEvent.{happened}
 use Rattle.sms_centre_spec.specs.Draft.{Core}
 use Rattle.sms_centre_spec.specs.Planning.{outcome_of, plan_of}
 use Rattle.sms_centre_events.specs.offering.Refusing.{answers_but}
+use Rattle.sms_centre_reports.specs.report_log.ReportLog.{LogReserve, Suffices}
 use Rattle.sms_centre.specs.declared.plans.event_outcome.EventOutcome.{EventOutcome}
 use Rattle.sms_centre.specs.plans.EventOutcome.{FitsIn, IsOutcome}
 use Rattle.sms_centre.specs.state.CentreState.{CentreStateOf}
@@ -16,13 +17,13 @@ use Rattle.sms_centre.specs.state.CentreState.{CentreStateOf}
 pub record PlanOf : Type 0 where
   -- what is changed, what leaves, and what is in memory after it
   pub plan : EventOutcome
-  -- memory for so many reports
-  pub log : ℕ
+  -- memory for its reports
+  pub log : LogReserve
 
 -- it can be put in without taking memory
 pub record FitsTheCentre (s : CentreStateOf) (p : PlanOf) : Type 0 where
   pub plan : FitsIn s.messages s.reference_index p.plan
-  pub log : length s.log.rows + length p.plan.changes.reports ≤ max s.log.capacity p.log
+  pub log : Suffices (length p.plan.changes.reports) s.log p.log
 
 -- The plan is that of the event with a store that answers these reads; or nothing is planned; or there was no memory for it.
 abbrev pub PlansEvent : (ℕ → Bool) → CentreEvent → Core → Result PlanOf PlanError → Type 0

@@ -1,17 +1,12 @@
 //! Which messages a centre may forget, and the plan of it.
-ghost use Rattle.std.specs.Prelude.{◌≡◌, ◌∷◌, [], ◌++◌, ◌+◌, ℕ, List, Some, get_or, slice_get, IfOk, OnOk};
-ghost use Rattle.sms_rows.specs.table.Table.{Rises};
-ghost use Rattle.sms_centre_rows.specs.declared.reports.report.ReportRow.{ReportRow as ReportRowOf};
+ghost use Rattle.std.specs.Prelude.{◌≡◌, ◌∷◌, [], ◌++◌, ◌+◌, ℕ, Some, slice_get, IfOk, OnOk};
 ghost use Rattle.sms_centre_rows.specs.messages.Messages.{message_at};
 ghost use Rattle.sms_centre_rows.specs.waiting.Links.{link_of};
-ghost use Rattle.sms_centre_reports.specs.report_log.ByMessage.{reports_between};
-ghost use Rattle.sms_centre_reports.specs.report_log.ReportLog.{Represents as LogRepresents};
 ghost use Rattle.sms_centre_spec.specs.Draft.{Core, Draft, changes_in, draft_of};
 ghost use Rattle.sms_centre_spec.specs.forgetting.Forget.{bars_put, claims_by, forget as forget_of, going_now, is_carried as is_carried_of, is_held_for as is_held_for_of};
 ghost use Rattle.sms_centre_spec.specs.forgetting.Forget.{is_on_way as is_on_way_of, may_go_now as may_go_now_of, next_from as next_from_of};
 ghost use Rattle.sms_centre_spec.specs.forgetting.Forgetting.{may_go as may_go_of};
 ghost use Rattle.sms_centre_draft.specs.CentreDraft.{Represents as DraftRepresents};
-ghost use Rattle.sms_centre_draft.specs.Forgetting.{ArePlaced};
 ghost use Rattle.sms_centre.specs.Archiving.{AreArchived, Stays};
 ghost use Rattle.sms_centre.specs.Forgetting.{gone_at};
 ghost use Rattle.sms_centre.specs.Planning.{FitsTheCentre};
@@ -27,10 +22,9 @@ use crate::state::CentreState;
 use sms_base::{Carried, Digits, Holder, Listed, MessageId, Moment, Msisdn};
 use sms_centre_draft::CentreDraft;
 use sms_centre_messages::message_index::has_ended;
-use sms_centre_reports::report_log::{MessageReport, ReportLog};
 use sms_centre_reports::reported::is_reported;
 use sms_centre_rows::messages::{BarRow, MessageRow as Message};
-use sms_rows::table::{Change, Table};
+use sms_rows::table::Change;
 use std::alloc::{AllocError, Global};
 
 // ---- what is asked of a message
@@ -216,56 +210,6 @@ fn going(
     }
 }
 
-// The reports of these messages, whose numbers rise. It looks at all reports, unless no message goes.
-fn reports_of(
-    alloc: Global,
-    log: &ReportLog,
-    ids: &[MessageId],
-) -> Result<Table<MessageReport>, AllocError>
-    ensures { (rows : List ReportRowOf) → LogRepresents log.now rows → Rises (λ (n : ℕ). n) ids.now → IfOk result (λ found. ArePlaced ids.now found.rows rows) }
-{
-    match ids.get(0) {
-        Some(first) => reports_from(alloc, log, ids, *first),
-        None => {
-            let none = Table::new(alloc);
-            Ok(none)
-        }
-    }
-}
-
-// The same, where that one is the first.
-fn reports_from(
-    alloc: Global,
-    log: &ReportLog,
-    ids: &[MessageId],
-    first: MessageId,
-) -> Result<Table<MessageReport>, AllocError>
-    ensures { (rows : List ReportRowOf) → LogRepresents log.now rows → Rises (λ (n : ℕ). n) ids.now → first ≡ get_or ids.now 0 first
-        → IfOk result (λ found. ArePlaced ids.now found.rows rows) }
-{
-    match ids.last() {
-        Some(last) => reports_to(alloc, log, first, *last),
-        None => {
-            let none = Table::new(alloc);
-            Ok(none)
-        }
-    }
-}
-
-fn reports_to(
-    alloc: Global,
-    log: &ReportLog,
-    first: MessageId,
-    last: MessageId,
-) -> Result<Table<MessageReport>, AllocError>
-    ensures { IfOk result (λ found. found.rows ≡ reports_between first (last + 1) log.now.rows) }
-{
-    match last.number().checked_add(1) {
-        Some(end) => log.between(alloc, first.number(), end),
-        None => Err(AllocError),
-    }
-}
-
 // ---- the plan
 
 // The bars that are put for what goes.
@@ -325,28 +269,13 @@ fn forget_all(
         → IfOk result (λ bars. bars ≡ bars_put (claims_by ids.now c.rows.messages c.rows.parts) c.rows.bars) }
 {
     let bars = bars_for(alloc, state, ids)?;
-    match forget_reported(alloc, state, draft, ids) {
+    match draft.forget(ids, &state.log) {
         Ok(()) => Ok(bars),
         Err(error) => {
             drop(bars);
             Err(error)
         }
     }
-}
-
-fn forget_reported(
-    alloc: Global,
-    state: &CentreState,
-    draft: &mut CentreDraft<'_>,
-    ids: &[MessageId],
-) -> Result<(), AllocError>
-    ensures { (before from most : ℕ) (c : Core) → DraftRepresents (draft_of c) draft.old → StateRepresents c state.now → ids.now ≡ going_now before from most c
-        → OnOk result (DraftRepresents (forget_of before from most c) draft.new) }
-{
-    let found = reports_of(alloc, &state.log, ids)?;
-    let done = draft.forget(ids, &found);
-    drop(found);
-    done
 }
 
 fn plan_begun<A: Archive>(

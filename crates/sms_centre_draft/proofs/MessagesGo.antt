@@ -15,7 +15,6 @@ use Rattle.sms_centre_rows.specs.waiting.Revisions.{Revised}
 use Rattle.sms_centre_rows.proofs.reports.AllWaiting.{report_found}
 use Rattle.sms_centre_messages.specs.message_index.MessageIndex.{DraftRepresents as RepresentsMessages}
 use Rattle.sms_centre_queue.specs.queues.Representing.{DraftRepresents as RepresentsQueues}
-use Rattle.sms_centre_reports.specs.declared.report_log.by_message.MessageReport.{MessageReport}
 use Rattle.sms_centre_reports.specs.open_reports.Entries.{account_in}
 use Rattle.sms_centre_reports.specs.open_reports.OpenReportsDraft.{DraftRepresents, OpenReportsDraftOf as ReportsOf, made_in}
 use Rattle.sms_centre_spec.specs.declared.rows.Rows.{Rows}
@@ -32,7 +31,7 @@ use Rattle.sms_centre_spec.proofs.forgetting.Now.{can_now, forgot_now}
 use Rattle.sms_centre_spec.proofs.forgetting.Removed.{allocations_kept, moment_kept, rows_left, setup_kept}
 use Rattle.sms_centre_spec.proofs.forgetting.Splits.{next_place_same}
 use Rattle.sms_centre_draft.specs.CentreDraft.{CentreDraftOf, Represents, all_waiting}
-use Rattle.sms_centre_draft.specs.Forgetting.{ArePlaced, CanRemove, found_place, place_of}
+use Rattle.sms_centre_draft.specs.Forgetting.{CanRemove, place_of}
 use Rattle.sms_centre_draft.proofs.ReportsStill.{told_still}
 use Rattle.sms_centre_draft.proofs.RepresentedMoves.{queues_alike}
 
@@ -76,10 +75,6 @@ before_among k x (n ∷ ns) ys e = ⊎_elim
 here_among : (x : ℕ) (ns ys : List ℕ) → is_among x (ns ++ x ∷ ys) ≡ true
 here_among x [] ys = ap (λ (b : Bool). b || is_among x ys) (eq-eqb x x refl)
 here_among x (n ∷ ns) ys = or_right (n == x) (is_among x (ns ++ x ∷ ys)) (here_among x ns ys)
-
-member : (x : ℕ) (ns ys : List ℕ) → Among x (ns ++ x ∷ ys)
-member x [] ys = inl refl
-member x (n ∷ ns) ys = inr (member x ns ys)
 
 -- ---- one message more
 
@@ -179,19 +174,19 @@ module _ (before from most : ℕ) (c : Core) (s : IsSoundCore c) where
       unmade = unmade_all x done first refl;
     }
 
-    pub placed : (found : List MessageReport) → ArePlaced ids found c.rows.reports → found_place x found ≡ place_of (report_of x (reports_of t))
-    placed found are = are x (subst (λ (l : List ℕ). Among x l) split (member x done ys)) ∙ ap (λ (o : Option ReportRow). place_of o) (sym same_report)
+    pub placed : place_of (report_of x c.rows.reports) ≡ place_of (report_of x (reports_of t))
+    placed = ap (λ (o : Option ReportRow). place_of o) (sym same_report)
 
   pub went_first : (w : CentreDraftOf) → Represents (draft_of c) w → Went first c.rows.messages ids 0 w w
   went_first w h = record { done = []; left = refl; messages = h.messages; reports = h.reports; rest = refl }
 
-  pub went_on : (i x : ℕ) (was w after : CentreDraftOf) (found : List MessageReport) → i < length ids → x ≡ get_or ids i x → ArePlaced ids found c.rows.reports
+  pub went_on : (i x : ℕ) (was w after : CentreDraftOf) (place : Option ℕ) → i < length ids → x ≡ get_or ids i x → place ≡ place_of (report_of x c.rows.reports)
       → ((m : Messages) → RepresentsMessages w.messages m → RepresentsMessages after.messages (message_out x m))
-      → ((t : Revised ReportRow) → DraftRepresents c.rows.messages w.reports t → found_place x found ≡ place_of (report_of x (reports_of t)) → CanRemove x t
+      → ((t : Revised ReportRow) → DraftRepresents c.rows.messages w.reports t → place ≡ place_of (report_of x (reports_of t)) → CanRemove x t
       → DraftRepresents c.rows.messages after.reports (report_out x t))
       → after ≡ record w { messages = after.messages; reports = after.reports }
       → Went first c.rows.messages ids i was w → Went first c.rows.messages ids (i + 1) was after
-  went_on i x was w after found l is are messages reports rest so_far =
+  went_on i x was w after place l is at messages reports rest so_far =
       let next : drop i ids ≡ x ∷ drop (i + 1) ids = drop_more ids i x l ∙ ap (λ (y : ℕ). y ∷ drop (i + 1) ids) (sym is) in
       let split : so_far.done ++ x ∷ drop (i + 1) ids ≡ ids = ap (λ (l : List ℕ). so_far.done ++ l) (sym next) ∙ so_far.left in
       let more : messages_gone (so_far.done ++ x ∷ []) first ≡ message_gone x (messages_gone so_far.done first) = gone_more so_far.done x first in
@@ -200,7 +195,7 @@ module _ (before from most : ℕ) (c : Core) (s : IsSoundCore c) where
         left = append_assoc so_far.done (x ∷ []) (drop (i + 1) ids) ∙ split;
         messages = subst (λ (z : Store). RepresentsMessages after.messages z.messages) (sym more) (messages (messages_gone so_far.done first).messages so_far.messages);
         reports = subst (λ (z : Store). DraftRepresents c.rows.messages after.reports z.reports) (sym more)
-            (reports (messages_gone so_far.done first).reports so_far.reports (placed so_far.done x (drop (i + 1) ids) split found are) (can_remove so_far.done x (drop (i + 1) ids) split));
+            (reports (messages_gone so_far.done first).reports so_far.reports (at ∙ placed so_far.done x (drop (i + 1) ids) split) (can_remove so_far.done x (drop (i + 1) ids) split));
         rest = rest ∙ ap (λ (z : CentreDraftOf). record z { messages = after.messages; reports = after.reports }) so_far.rest;
       }
 

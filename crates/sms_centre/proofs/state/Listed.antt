@@ -1,16 +1,14 @@
 -- Lines that are listed one after the other.
-use Rattle.std.proofs.Common.{◌≡◌, ℕ, zero, suc, ◌+◌, ◌<◌, List, [], ◌∷◌, ◌++◌, length, map, take, get_or, add-one, append-nil, refl, sym, ◌∙◌, ap, arith}
+use Rattle.std.proofs.Common.{◌≡◌, ℕ, zero, suc, ◌+◌, List, [], ◌∷◌, ◌++◌, take, add-one, append-nil, refl, sym, ◌∙◌, ap}
 use Rattle.std.specs.Prelude.{slice_get}
 use Rattle.std.proofs.lemmas.List.{append_assoc}
 use Rattle.sms_centre_rows.specs.declared.messages.message.MessageRow.{MessageRow}
 use Rattle.sms_centre_rows.specs.messages.Messages.{message_at}
-use Rattle.sms_centre_reports.specs.declared.report_log.log.LoggedReport.{LoggedReport}
-use Rattle.sms_centre_reports.specs.report_log.ReportLog.{made_report}
 use Rattle.sms_centre_reports.specs.report_log.Reporting.{message_line, message_lines, receipt_line, receipt_lines}
 use Rattle.sms_centre_rows.specs.declared.report_lines.ReportedMessage.{ReportedMessage}
 use Rattle.sms_centre_rows.specs.declared.report_lines.ReceiptRow.{ReceiptRow}
 use Rattle.sms_centre_rows.specs.declared.reports.report.ReportRow.{ReportRow}
-use Rattle.sms_centre.specs.state.MessageLines.{line_at}
+use Rattle.sms_centre.specs.state.MessageLines.{line_at, receipt_at}
 
 line_next : (i : ℕ) (ms : List MessageRow) → message_lines (take (suc i) ms) ≡ message_lines (take i ms) ++ line_at (slice_get ms i)
 line_next zero [] = refl
@@ -23,16 +21,14 @@ pub message_next : (i : ℕ) (ms : List MessageRow) → message_lines (take (i +
 message_next i ms = ap (λ (n : ℕ). message_lines (take n ms)) (add-one i) ∙ line_next i ms
 
 module _ (ms : List MessageRow) where
-  listed_next : (i : ℕ) (rows : List ReportRow) (made : LoggedReport) → i < length (map made_report rows) → made ≡ get_or (map made_report rows) i made
-      → receipt_lines ms (take (suc i) rows) ≡ receipt_lines ms (take i rows) ++ receipt_line (message_at made.id ms)
-  listed_next i [] made l is = absurd (omega (arith, l))
-  listed_next zero (r ∷ rs) made l is =
-      append-nil (receipt_line (message_at r.id ms)) ∙ ap (λ (id : ℕ). receipt_line (message_at id ms)) (sym (ap (λ (x : LoggedReport). x.id) is))
-  listed_next (suc i) (r ∷ rs) made l is =
-      ap (λ (ls : List ReceiptRow). receipt_line (message_at r.id ms) ++ ls) (listed_next i rs made (omega (arith, l)) is)
-      ∙ sym (append_assoc (receipt_line (message_at r.id ms)) (receipt_lines ms (take i rs)) (receipt_line (message_at made.id ms)))
+  listed_next : (i : ℕ) (rows : List ReportRow) → receipt_lines ms (take (suc i) rows) ≡ receipt_lines ms (take i rows) ++ receipt_at ms (slice_get rows i)
+  listed_next zero [] = refl
+  listed_next zero (r ∷ rs) = append-nil (receipt_line (message_at r.id ms))
+  listed_next (suc i) [] = refl
+  listed_next (suc i) (r ∷ rs) =
+      ap (λ (ls : List ReceiptRow). receipt_line (message_at r.id ms) ++ ls) (listed_next i rs)
+      ∙ sym (append_assoc (receipt_line (message_at r.id ms)) (receipt_lines ms (take i rs)) (receipt_at ms (slice_get rs i)))
 
   -- the line of the next report
-  pub receipt_next : (i : ℕ) (rows : List ReportRow) (made : LoggedReport) → i < length (map made_report rows) → made ≡ get_or (map made_report rows) i made
-      → receipt_lines ms (take (i + 1) rows) ≡ receipt_lines ms (take i rows) ++ receipt_line (message_at made.id ms)
-  receipt_next i rows made l is = ap (λ (n : ℕ). receipt_lines ms (take n rows)) (add-one i) ∙ listed_next i rows made l is
+  pub receipt_next : (i : ℕ) (rows : List ReportRow) → receipt_lines ms (take (i + 1) rows) ≡ receipt_lines ms (take i rows) ++ receipt_at ms (slice_get rows i)
+  receipt_next i rows = ap (λ (n : ℕ). receipt_lines ms (take n rows)) (add-one i) ∙ listed_next i rows

@@ -3,8 +3,7 @@ use Rattle.std.specs.Prelude.{ℕ}
 use Rattle.sms_centre_messages.specs.references.ReferenceIndex.{ReferenceIndexOf, Represents as ReferencesRepresent}
 use Rattle.sms_centre_reports.specs.open_reports.OpenReports.{OpenReportsOf}
 use Rattle.sms_centre_messages.specs.message_index.MessageIndex.{MessageIndexOf as MessagesOf}
-use Rattle.sms_centre_reports.specs.declared.report_log.log.LoggedReport.{LoggedReport}
-use Rattle.sms_centre_reports.specs.report_log.ReportLog.{Represents as LogRepresents}
+use Rattle.sms_centre_reports.specs.report_log.ReportLog.{LogInMemory, Represents as LogRepresents}
 use Rattle.sms_centre_rows.specs.reports.Receipts.{Session}
 use Rattle.sms_centre_reports.specs.sessions.Awaited.{AreAwaited}
 use Rattle.sms_centre_queue.specs.queues.Queues.{DeliveryQueuesOf}
@@ -26,7 +25,7 @@ pub record CentreStateOf : Type 0 where
   -- the reports that are open
   pub reports : OpenReportsOf
   -- all reports that were made
-  pub log : RowsInMemory LoggedReport
+  pub log : LogInMemory
   -- the sessions that are bound
   pub sessions : RowsInMemory Session
 

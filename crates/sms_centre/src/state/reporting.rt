@@ -11,7 +11,7 @@ ghost use Rattle.sms_centre_reports.specs.report_log.Reporting.{receipt_lines as
 ghost use Rattle.sms_centre_rows.specs.declared.reports.report.ReportRow.{ReportRow as ReportRowOf};
 ghost use Rattle.sms_centre_spec.specs.Draft.{Core};
 ghost use Rattle.sms_centre.specs.state.CentreState.{Represents as StateRepresents};
-ghost use Rattle.sms_centre.specs.state.MessageLines.{line_at};
+ghost use Rattle.sms_centre.specs.state.MessageLines.{line_at, receipt_at};
 
 use crate::state::centre_state::CentreState;
 use sms_base::{FinalState, Listed, MessageId};
@@ -90,6 +90,23 @@ fn push_receipt(
     }
 }
 
+// The line of the report at that place in the order made is added, if there is one and its message ended.
+fn push_report(
+    alloc: Global,
+    messages: &MessageIndex,
+    log: &ReportLog,
+    place: usize,
+    lines: &mut Listed<ReceiptRow>,
+) -> Result<(), AllocError>
+    ensures { (ms : List MessageRowOf) (ps : List PartRowOf) (rows : List ReportRowOf) → MessagesRepresent messages.now ms ps → LogRepresents log.now rows
+        → OnOk result (lines.new ≡ lines.old ++ receipt_at ms (slice_get rows place)) }
+{
+    match log.message_at(place) {
+        Some(id) => push_receipt(alloc, messages, id, lines),
+        None => Ok(()),
+    }
+}
+
 fn receipt_lines(
     alloc: Global,
     messages: &MessageIndex,
@@ -99,8 +116,8 @@ fn receipt_lines(
         → IfOk result (λ lines. lines ≡ receipt_lines_of ms rows) }
 {
     let mut lines = Listed::new(alloc);
-    for report in log.reports() {
-        push_receipt(alloc, messages, report.id, &mut lines)?;
+    for place in 0..log.len() {
+        push_report(alloc, messages, log, place, &mut lines)?;
     }
     Ok(lines)
 }

@@ -7,6 +7,6 @@ use Rattle.sms_centre_reports.specs.report_log.Reporting.{receipt_lines}
 use Rattle.sms_centre_rows.specs.declared.reports.report.ReportRow.{ReportRow}
 use Rattle.sms_centre.proofs.state.reporting.receipt_lines.Given as goal
 
-abbrev pub invariant-loop-report : goal.invariant-loop-report
-invariant-loop-report l =
-    (ms : List MessageRow) (ps : List PartRow) (rows : List ReportRow) → Represents l.messages ms ps → LogRepresents l.log rows → l.lines ≡ receipt_lines ms (take l.report-index rows)
+abbrev pub invariant-loop-place : goal.invariant-loop-place
+invariant-loop-place l =
+    (ms : List MessageRow) (ps : List PartRow) (rows : List ReportRow) → Represents l.messages ms ps → LogRepresents l.log rows → l.lines ≡ receipt_lines ms (take l.place rows)
