@@ -13,4 +13,5 @@ pub mod amending;
 pub mod centre;
 pub mod handset;
 mod key;
+mod reading;
 mod references;

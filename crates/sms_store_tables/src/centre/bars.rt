@@ -3,6 +3,7 @@ ghost use Rattle.std.specs.Prelude.{refl};
 ghost use Rattle.sms_store_tables.specs.centre.BarList.{bar_is_list, bar_list};
 
 use crate::centre::kind::CentreStore;
+use crate::fields;
 use crate::key::place_value;
 use sms_centre_rows::messages::BarRow;
 use sms_store_sql::listing::{
@@ -10,7 +11,7 @@ use sms_store_sql::listing::{
     short_at, text_of,
 };
 use sms_store_sql::schema::StoredTable;
-use sms_store_sql::{fields, table};
+use sms_store_sql::table;
 use sqlite::{Alter, Error, Row, Transaction, params};
 use std::alloc::Global;
 

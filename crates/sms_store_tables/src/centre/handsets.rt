@@ -3,12 +3,13 @@ ghost use Rattle.std.specs.Prelude.{refl};
 ghost use Rattle.sms_store_tables.specs.centre.HandsetList.{handset_is_list, handset_list};
 
 use crate::centre::kind::CentreStore;
+use crate::fields;
 use sms_centre_rows::waiting::HandsetRow;
 use sms_store_sql::listing::{
     Counted, StoredRow, handset_at, handset_text, octet_at, run_counted, word_at,
 };
 use sms_store_sql::schema::StoredTable;
-use sms_store_sql::{fields, table};
+use sms_store_sql::table;
 use sqlite::{Alter, Error, Row, Transaction, params};
 use std::alloc::Global;
 

@@ -6,6 +6,7 @@ use crate::centre::kind::CentreStore;
 use crate::centre::pieces::{
     account_of, id_at, mark_of, originator_at, short_of, state_at, state_word, wish_at, wish_word,
 };
+use crate::fields;
 use crate::key::{id_value, moment_value, seconds_of};
 use sms_centre_rows::messages::MessageRow;
 use sms_store_sql::listing::{
@@ -13,7 +14,7 @@ use sms_store_sql::listing::{
     optional_moment_at, optional_short_at, run_counted, text_of,
 };
 use sms_store_sql::schema::StoredTable;
-use sms_store_sql::{fields, table};
+use sms_store_sql::table;
 use sqlite::{Alter, Error, Row, Transaction, params};
 use std::alloc::Global;
 

@@ -9,6 +9,7 @@ use crate::centre::kind::CentreStore;
 use crate::centre::pieces::{
     bits_of, concat_number_of, concat_total_of, id_at, key_at, number_of, progress_at,
 };
+use crate::fields;
 use crate::key::{id_value, moment_value};
 use sms_centre_rows::messages::PartRow;
 use sms_centre_rows::waiting::Progress;
@@ -17,7 +18,7 @@ use sms_store_sql::listing::{
     Counted, FoundRow, StoredRow, integers_of, octet_at, octets_at, query, run, run_counted,
 };
 use sms_store_sql::schema::StoredTable;
-use sms_store_sql::{fields, table};
+use sms_store_sql::table;
 use sqlite::{Alter, Error, Row, Transaction, params};
 use std::alloc::Global;
 

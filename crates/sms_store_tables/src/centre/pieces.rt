@@ -16,6 +16,7 @@ ghost use Rattle.sms_store_tables.specs.centre.Pieces.{key_in, kind_in, kind_ref
 ghost use Rattle.sms_store_tables.specs.centre.Pieces.{reference_bits, reference_number, state_in, state_word, wish_in, wish_word};
 
 use crate::references::{reference_at, reference_bits, reference_number};
+use crate::{fields, named};
 use sms_base::{FinalState, MessageId, Originator, Wish};
 use sms_centre_rows::reports::ReportKind;
 use sms_centre_rows::waiting::Progress;
@@ -23,7 +24,6 @@ use sms_concat::ConcatKey;
 use sms_store_sql::listing::{
     flag_at, is_null_at, moment_at, number_at, octet_at, octets_at, text_at,
 };
-use sms_store_sql::{fields, named};
 use sqlite::{Error, Row};
 
 pub(crate) fn id_at(row: &Row, at: usize) -> Result<MessageId, Error>

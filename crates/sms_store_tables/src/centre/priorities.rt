@@ -4,11 +4,12 @@ ghost use Rattle.sms_store_tables.specs.centre.PriorityList.{priority_is_list, p
 
 use crate::centre::kind::CentreStore;
 use crate::centre::pieces::id_at;
+use crate::fields;
 use crate::key::id_value;
 use sms_centre_rows::messages::PriorityRow;
 use sms_store_sql::listing::{Counted, StoredRow, octet_at, run_counted};
 use sms_store_sql::schema::StoredTable;
-use sms_store_sql::{fields, table};
+use sms_store_sql::table;
 use sqlite::{Alter, Error, Row, Transaction, params};
 use std::alloc::Global;
 

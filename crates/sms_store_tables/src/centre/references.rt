@@ -3,11 +3,12 @@ ghost use Rattle.std.specs.Prelude.{refl};
 ghost use Rattle.sms_store_tables.specs.centre.ReferenceList.{reference_is_list, reference_list};
 
 use crate::centre::kind::CentreStore;
+use crate::fields;
 use crate::key::moment_value;
 use sms_centre_rows::waiting::ReferenceRow;
 use sms_store_sql::listing::{Counted, StoredRow, moment_at, octet_at, run_counted, word_at};
 use sms_store_sql::schema::StoredTable;
-use sms_store_sql::{fields, table};
+use sms_store_sql::table;
 use sqlite::{Alter, Error, Row, Transaction, params};
 use std::alloc::Global;
 

@@ -10,6 +10,7 @@ use crate::centre::kind::CentreStore;
 use crate::centre::pieces::{
     id_at, kind_reference, kind_tpdu, kind_word, progress_at, report_kind_at,
 };
+use crate::fields;
 use crate::key::{id_value, moment_value, place_value};
 use sms_centre_rows::reports::ReportRow;
 use sms_centre_rows::waiting::Progress;
@@ -19,7 +20,7 @@ use sms_store_sql::listing::{
     run_counted,
 };
 use sms_store_sql::schema::StoredTable;
-use sms_store_sql::{fields, table};
+use sms_store_sql::table;
 use sqlite::{Alter, Error, Row, Transaction, params};
 use std::alloc::Global;
 

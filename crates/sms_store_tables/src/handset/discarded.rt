@@ -2,13 +2,14 @@
 ghost use Rattle.std.specs.Prelude.{refl};
 ghost use Rattle.sms_store_tables.specs.handset.DiscardedGroupList.{mark_is_list, mark_list};
 
+use crate::fields;
 use crate::handset::group::group_at;
 use crate::handset::kind::HandsetStore;
 use crate::references::{reference_bits, reference_number};
 use sms_handset_rows::inbox::DiscardedGroup;
 use sms_store_sql::listing::{Counted, StoredRow, octets_at, run_counted, text_of, word_at};
 use sms_store_sql::schema::StoredTable;
-use sms_store_sql::{fields, table};
+use sms_store_sql::table;
 use sqlite::{Alter, Error, Row, Transaction, params};
 use std::alloc::Global;
 

@@ -2,11 +2,12 @@
 ghost use Rattle.std.specs.Prelude.{refl};
 ghost use Rattle.sms_store_tables.specs.handset.LastAcceptedList.{last_is_list, last_list};
 
+use crate::fields;
 use crate::handset::kind::HandsetStore;
 use sms_handset_rows::inbox::LastAccepted;
 use sms_store_sql::listing::{Counted, StoredRow, octet_at, octets_at, run_counted};
 use sms_store_sql::schema::StoredTable;
-use sms_store_sql::{fields, table};
+use sms_store_sql::table;
 use sqlite::{Alter, Error, Row, Transaction, params};
 use std::alloc::Global;
 

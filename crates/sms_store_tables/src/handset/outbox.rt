@@ -8,6 +8,7 @@ ghost use Rattle.sms_store_sql.specs.listing.Columns.{IsOctet, number, octets_in
 ghost use Rattle.sms_store_sql.specs.listing.Reading.{HasAt, LacksMemory};
 ghost use Rattle.sms_store_tables.specs.handset.OutEntryList.{out_is_list, out_list};
 
+use crate::fields;
 use crate::handset::kind::HandsetStore;
 use crate::handset::words::{state_at, state_word};
 use crate::key::seconds_of;
@@ -18,7 +19,7 @@ use sms_store_sql::listing::{
     optional_octet_at, run_counted, text_of, word_at,
 };
 use sms_store_sql::schema::StoredTable;
-use sms_store_sql::{fields, table};
+use sms_store_sql::table;
 use sqlite::{Alter, Error, Row, Transaction, params};
 use std::alloc::Global;
 

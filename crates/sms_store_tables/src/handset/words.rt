@@ -6,10 +6,10 @@ ghost use Rattle.sms_store_sql.specs.listing.Columns.{text_in};
 ghost use Rattle.sms_store_sql.specs.listing.Reading.{HasAt, LacksMemory};
 ghost use Rattle.sms_store_tables.specs.handset.Words.{coding_in, coding_word, state_in, state_word};
 
+use crate::named;
 use sms_alphabet::Coding;
 use sms_handset_rows::outbox::EntryState;
 use sms_store_sql::listing::text_at;
-use sms_store_sql::named;
 use sqlite::{Error, Row};
 
 pub(crate) fn state_word(state: EntryState) -> &'static str
