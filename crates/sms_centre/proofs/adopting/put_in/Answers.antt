@@ -1,5 +1,5 @@
-use Rattle.std.proofs.Common.{List, length, sym, subst}
-use Rattle.sms_centre_reports.specs.report_log.ReportLog.{Represents as LogRepresents, Suffices}
+use Rattle.std.proofs.Common.{List, sym, subst}
+use Rattle.sms_centre_reports.specs.report_log.ReportLog.{Represents as LogRepresents}
 use Rattle.sms_centre_rows.specs.declared.reports.report.ReportRow.{ReportRow}
 use Rattle.sms_centre_rows.specs.reports.Reports.{report_key, report_reaching}
 use Rattle.sms_centre_rows.specs.declared.waiting.revision.Revision.{Revision}
@@ -13,12 +13,6 @@ use Rattle.sms_centre_spec.specs.forgetting.Forget.{forget}
 use Rattle.sms_centre.proofs.Forgotten.{awaited_still, rows_forgotten}
 use Rattle.sms_centre.proofs.Promises.{planned_rows}
 use Rattle.sms_centre.proofs.adopting.put_in.Goals as goal
-
-pub adopt-requires : goal.adopt-requires
-adopt-requires c =
-    subst (λ (x : List (Revision ReportRow)). Suffices (length x) c.centre_state.inside.log c.planned.inside.log) (sym c.as_slice.ensures)
-    (subst (λ (p : PlanOf). Suffices (length p.plan.changes.reports) c.centre_state.inside.log p.log) (sym c.planned.view_is)
-    (subst (λ (x : CentreStateOf). Suffices (length c.args.planned.plan.changes.reports) x.log c.args.planned.log) (sym c.centre_state.view_is) c.requires.log))
 
 pub returns-clause-centre_state : goal.returns-clause-centre_state
 returns-clause-centre_state c = λ event core centre_state is planned.
