@@ -31,9 +31,19 @@ module _ (db : Database) where
   pub holds_all : (setup : Setup) → HasRows centre_stores setup db → HoldsAll
   holds_all setup has =
       let is = has.1.0 in
-      let rows = has.0 in
-      ((rows.messages, is.messages), ((rows.parts, is.parts), ((rows.references, is.references), ((rows.handsets, is.handsets),
-      ((rows.reports, is.reports), ((rows.priorities, is.priorities), (rows.bars, is.bars)))))))
+      let rows = has.0 in (
+        (rows.messages, is.messages),
+        (
+          (rows.parts, is.parts),
+          (
+            (rows.references, is.references),
+            (
+              (rows.handsets, is.handsets),
+              ((rows.reports, is.reports), ((rows.priorities, is.priorities), (rows.bars, is.bars))),
+            ),
+          ),
+        ),
+      )
 
   -- the rows that are found are those of the store
   pub found_rows : (setup : Setup) (rows : Rows) → IsStoreWith centre_stores setup db rows

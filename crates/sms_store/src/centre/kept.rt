@@ -22,14 +22,16 @@ use std::alloc::Global;
 type MoreLists = Then<ReportRow, Then<PriorityRow, Last<BarRow>>>;
 
 // All lists.
-type Lists =
-    Then<MessageRow, Then<PartRow, Then<ReferenceRow, Then<HandsetRow, MoreLists>>>>;
+type Lists = Then<MessageRow, Then<PartRow, Then<ReferenceRow, Then<HandsetRow, MoreLists>>>>;
 
 type MoreFound = (Vec<ReportRow>, (Vec<PriorityRow>, Vec<BarRow>));
 
 type Found = (
     Vec<MessageRow>,
-    (Vec<PartRow>, (Vec<ReferenceRow>, (Vec<HandsetRow>, MoreFound))),
+    (
+        Vec<PartRow>,
+        (Vec<ReferenceRow>, (Vec<HandsetRow>, MoreFound)),
+    ),
 );
 
 impl Kept for Setup {
@@ -73,8 +75,16 @@ impl Kept for Setup {
 
 // The rows of the lists.
 fn rows_of(lists: Found, setup: Setup) -> Rows
-    ensures { result ≡ record { messages = lists.0.items; parts = lists.1.0.items; references = lists.1.1.0.items; handsets = lists.1.1.1.0.items;
-        reports = lists.1.1.1.1.0.items; priorities = lists.1.1.1.1.1.0.items; bars = lists.1.1.1.1.1.1.items; setup = setup } }
+    ensures { result ≡ record {
+      messages = lists.0.items;
+      parts = lists.1.0.items;
+      references = lists.1.1.0.items;
+      handsets = lists.1.1.1.0.items;
+      reports = lists.1.1.1.1.0.items;
+      priorities = lists.1.1.1.1.1.0.items;
+      bars = lists.1.1.1.1.1.1.items;
+      setup = setup;
+    } }
 {
     let (messages, (parts, (references, (handsets, (reports, (priorities, bars)))))) = lists;
     Rows {

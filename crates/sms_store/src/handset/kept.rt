@@ -17,12 +17,17 @@ use sqlite::{Alter, Connection, Error, Transaction};
 use std::alloc::Global;
 
 // All lists.
-type Lists =
-    Then<Entry, Then<LastAccepted, Then<OutEntry, Then<DiscardedGroup, Last<CountersRow>>>>>;
+type Lists = Then<
+    Entry,
+    Then<LastAccepted, Then<OutEntry, Then<DiscardedGroup, Last<CountersRow>>>>,
+>;
 
 type Found = (
     Vec<Entry>,
-    (Vec<LastAccepted>, (Vec<OutEntry>, (Vec<DiscardedGroup>, Vec<CountersRow>))),
+    (
+        Vec<LastAccepted>,
+        (Vec<OutEntry>, (Vec<DiscardedGroup>, Vec<CountersRow>)),
+    ),
 );
 
 impl Kept for Setup {
@@ -74,8 +79,14 @@ fn counters_in(rows: &[CountersRow]) -> Result<Counters, Error>
 
 // The rows of the lists, the counters those of the one row.
 fn rows_of(lists: Found, setup: Setup) -> Result<Rows, Error>
-    ensures found { IfOk result (λ rows. (lists.1.1.1.1.items ≡ counters_row rows.counters ∷ []) × (rows ≡ record { entries = lists.0.items;
-        last = lists.1.0.items; outbox = lists.1.1.0.items; marks = lists.1.1.1.0.items; counters = rows.counters; setup = setup })) }
+    ensures found { IfOk result (λ rows. (lists.1.1.1.1.items ≡ counters_row rows.counters ∷ []) × (rows ≡ record {
+      entries = lists.0.items;
+      last = lists.1.0.items;
+      outbox = lists.1.1.0.items;
+      marks = lists.1.1.1.0.items;
+      counters = rows.counters;
+      setup = setup;
+    })) }
     ensures always { (row : CountersRowOf) → lists.1.1.1.1.items ≡ row ∷ [] → IsOk result }
 {
     let (entries, (last, (outbox, (marks, counted)))) = lists;
