@@ -1,4 +1,5 @@
 use Rattle.std.proofs.Common.{sym, ◌∙◌}
+use Rattle.std.proofs.lemmas.Bool.{false≢true}
 use Rattle.sms_store.proofs.handset.kept.rows_of.Goals as goal
 
 pub returns-clause-found : goal.returns-clause-found
@@ -15,4 +16,4 @@ returns-clause-found c = (
 )
 
 pub returns-in_err-counters-clause-always : goal.returns-in_err-counters-clause-always
-returns-in_err-counters-clause-always c row one = c.in_err-counters.ensures.always row (c.deref.ensures.value ∙ one)
+returns-in_err-counters-clause-always c row one = absurd (false≢true (c.in_err-counters.ensures.always row (c.deref.ensures.value ∙ one)))

@@ -18,12 +18,12 @@ returns-then-is_first_schema-clause-stop g c =
 pub returns-then-is_second_schema-clause-err : goal.returns-then-is_second_schema-clause-err
 returns-then-is_second_schema-clause-err g c clean =
     let ours : (state g.S.Store c.args.conn.now).now.schema ≡ second_schema = search rules in
-    if_err c.refuse_earlier-2.result (λ error h. (refuses_second_now _ error h.0, h.1)) (c.refuse_earlier-2.ensures.err clean ours)
+    if_err c.refuse_earlier-then-is_second_schema.result (λ error h. (refuses_second_now _ error h.0, h.1)) (c.refuse_earlier-then-is_second_schema.ensures.err clean ours)
 
 pub returns-then-is_second_schema-clause-stop : goal.returns-then-is_second_schema-clause-stop
 returns-then-is_second_schema-clause-stop g c =
     let ours : (state g.S.Store c.args.conn.now).now.schema ≡ second_schema = search rules in
-    c.refuse_earlier-2.ensures.stop ours
+    c.refuse_earlier-then-is_second_schema.ensures.stop ours
 
 pub returns-clause-err : goal.returns-clause-err
 returns-clause-err g c clean =
