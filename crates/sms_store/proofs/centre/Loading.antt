@@ -1,10 +1,9 @@
 -- What is found of the lists of a centre's store.
 use Rattle.std.proofs.Common.{◌≡◌, List, sym, ◌∙◌}
 use Rattle.sqlite.specs.Effect.{Database}
-use Rattle.sms_store_sql.specs.listing.Lists.{FindsList, HoldsList, KnowsList}
+use Rattle.sms_store_sql.specs.listing.Lists.{FindsList, HoldsList}
 use Rattle.sms_store.specs.keeping.Stores.{HasRows, IsStoreWith}
 use Rattle.sms_store.specs.centre.CentreRows.{centre_stores}
-use Rattle.sms_store_tables.specs.centre.CentreSchema.{centre_schema}
 use Rattle.sms_store_tables.specs.centre.BarList.{bar_list}
 use Rattle.sms_store_tables.specs.centre.MessageList.{message_list}
 use Rattle.sms_store_tables.specs.centre.PartList.{part_list}
@@ -15,18 +14,10 @@ use Rattle.sms_store_tables.specs.centre.PriorityList.{priority_list}
 use Rattle.sms_store.specs.centre.Types.{Rows, Setup, BarRow, MessageRow, PartRow, ReferenceRow, HandsetRow, ReportRow, PriorityRow}
 
 module _ (db : Database) where
-  abbrev pub KnowsAll : Type 0
-  KnowsAll =
-      KnowsList message_list db × (KnowsList part_list db × (KnowsList reference_list db × (KnowsList handset_list db
-      × (KnowsList report_list db × (KnowsList priority_list db × KnowsList bar_list db)))))
-
   abbrev pub HoldsAll : Type 0
   HoldsAll =
       HoldsList message_list db × (HoldsList part_list db × (HoldsList reference_list db × (HoldsList handset_list db
       × (HoldsList report_list db × (HoldsList priority_list db × HoldsList bar_list db)))))
-
-  pub knows_all : db.schema ≡ centre_schema → KnowsAll
-  knows_all ours = (ours, (ours, (ours, (ours, (ours, (ours, ours))))))
 
   pub holds_all : (setup : Setup) → HasRows centre_stores setup db → HoldsAll
   holds_all setup has =

@@ -1,10 +1,9 @@
 -- What is found of the lists of a handset's store.
 use Rattle.std.proofs.Common.{◌≡◌, List, [], ◌∷◌, Result, Ok, Err, IfErr, IsOk, true≢false, sym, ap, ◌∙◌}
 use Rattle.sqlite.specs.Effect.{Database}
-use Rattle.sms_store_sql.specs.listing.Lists.{FindsList, HoldsList, KnowsList}
+use Rattle.sms_store_sql.specs.listing.Lists.{FindsList, HoldsList}
 use Rattle.sms_store.specs.keeping.Stores.{HasRows, IsStoreWith}
 use Rattle.sms_store.specs.handset.HandsetRows.{handset_stores, counters_row}
-use Rattle.sms_store_tables.specs.handset.HandsetSchema.{handset_schema}
 use Rattle.sms_store_tables.specs.handset.EntryList.{entry_list}
 use Rattle.sms_store_tables.specs.handset.LastAcceptedList.{last_list}
 use Rattle.sms_store_tables.specs.handset.OutEntryList.{out_list}
@@ -17,16 +16,9 @@ first_of other [] = other
 first_of other (c ∷ cs) = c.counters
 
 module _ (db : Database) where
-  abbrev pub KnowsAll : Type 0
-  KnowsAll =
-      KnowsList entry_list db × (KnowsList last_list db × (KnowsList out_list db × (KnowsList mark_list db × KnowsList count_list db)))
-
   abbrev pub HoldsAll : Type 0
   HoldsAll =
       HoldsList entry_list db × (HoldsList last_list db × (HoldsList out_list db × (HoldsList mark_list db × HoldsList count_list db)))
-
-  pub knows_all : db.schema ≡ handset_schema → KnowsAll
-  knows_all ours = (ours, (ours, (ours, (ours, ours))))
 
   pub holds_all : (setup : Setup) → HasRows handset_stores setup db → HoldsAll
   holds_all setup has =

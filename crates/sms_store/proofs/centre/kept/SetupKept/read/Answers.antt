@@ -1,6 +1,6 @@
 use Rattle.std.proofs.Common.{rules, ◌∙◌}
 use Rattle.sqlite.proofs.StateLemmas.{survives_weaker}
-use Rattle.sms_store.proofs.centre.Loading.{found_rows, holds_all, knows_all}
+use Rattle.sms_store.proofs.centre.Loading.{found_rows, holds_all}
 use Rattle.sms_store.proofs.centre.kept.SetupKept.read.Goals as goal
 
 pub returns-clause-found : goal.returns-clause-found
@@ -17,16 +17,16 @@ pub returns-in_err-lists-clause-stays : goal.returns-in_err-lists-clause-stays
 returns-in_err-lists-clause-stays g c clean ours = c.load_all.ensures.stays clean (ours, (ours, (ours, (ours, (ours, (ours, ours))))))
 
 pub returns-in_err-lists-clause-survives : goal.returns-in_err-lists-clause-survives
-returns-in_err-lists-clause-survives g c = survives_weaker _ _ _ _ (λ _ db none ours. none (knows_all db ours)) c.load_all.ensures.survives
+returns-in_err-lists-clause-survives g c = survives_weaker _ _ _ _ (λ _ db none ours. none (ours, (ours, (ours, (ours, (ours, (ours, ours))))))) c.load_all.ensures.survives
 
 pub returns-in_err-setup-clause-stays : goal.returns-in_err-setup-clause-stays
 returns-in_err-setup-clause-stays g c clean ours = c.load_all.ensures.stays clean (ours, (ours, (ours, (ours, (ours, (ours, ours))))))
 
 pub returns-in_err-setup-clause-survives : goal.returns-in_err-setup-clause-survives
-returns-in_err-setup-clause-survives g c = survives_weaker _ _ _ _ (λ _ db none ours. none (knows_all db ours)) c.load_all.ensures.survives
+returns-in_err-setup-clause-survives g c = survives_weaker _ _ _ _ (λ _ db none ours. none (ours, (ours, (ours, (ours, (ours, (ours, ours))))))) c.load_all.ensures.survives
 
 pub returns-clause-stays : goal.returns-clause-stays
 returns-clause-stays g c clean ours = c.load_all.ensures.stays clean (ours, (ours, (ours, (ours, (ours, (ours, ours))))))
 
 pub returns-clause-survives : goal.returns-clause-survives
-returns-clause-survives g c = survives_weaker _ _ _ _ (λ _ db none ours. none (knows_all db ours)) c.load_all.ensures.survives
+returns-clause-survives g c = survives_weaker _ _ _ _ (λ _ db none ours. none (ours, (ours, (ours, (ours, (ours, (ours, ours))))))) c.load_all.ensures.survives

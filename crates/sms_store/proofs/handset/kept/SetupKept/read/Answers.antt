@@ -1,7 +1,7 @@
 use Rattle.std.proofs.Common.{rules, ◌∙◌}
 use Rattle.sqlite.proofs.StateLemmas.{survives_weaker}
 use Rattle.sms_store_sql.proofs.listing.Steps.{if_ok}
-use Rattle.sms_store.proofs.handset.Loading.{found_counters, found_rows, holds_all, knows_all, never_refused}
+use Rattle.sms_store.proofs.handset.Loading.{found_counters, found_rows, holds_all, never_refused}
 use Rattle.sms_store.proofs.handset.kept.SetupKept.read.Goals as goal
 
 pub returns-clause-found : goal.returns-clause-found
@@ -18,7 +18,7 @@ pub returns-clause-stays : goal.returns-clause-stays
 returns-clause-stays g c clean ours = c.load_all.ensures.stays clean (ours, (ours, (ours, (ours, ours))))
 
 pub returns-clause-survives : goal.returns-clause-survives
-returns-clause-survives g c = survives_weaker _ _ _ _ (λ _ db none ours. none (knows_all db ours)) c.load_all.ensures.survives
+returns-clause-survives g c = survives_weaker _ _ _ _ (λ _ db none ours. none (ours, (ours, (ours, (ours, ours))))) c.load_all.ensures.survives
 
 pub returns-in_err-lists-clause-back : goal.returns-in_err-lists-clause-back
 returns-in_err-lists-clause-back g c clean ours has =
@@ -29,4 +29,4 @@ pub returns-in_err-lists-clause-stays : goal.returns-in_err-lists-clause-stays
 returns-in_err-lists-clause-stays g c clean ours = c.load_all.ensures.stays clean (ours, (ours, (ours, (ours, ours))))
 
 pub returns-in_err-lists-clause-survives : goal.returns-in_err-lists-clause-survives
-returns-in_err-lists-clause-survives g c = survives_weaker _ _ _ _ (λ _ db none ours. none (knows_all db ours)) c.load_all.ensures.survives
+returns-in_err-lists-clause-survives g c = survives_weaker _ _ _ _ (λ _ db none ours. none (ours, (ours, (ours, (ours, ours))))) c.load_all.ensures.survives
