@@ -15,8 +15,8 @@ use std::sync::Arc;
 // A call looks at so many messages.
 const MOST: u16 = 200;
 
-// A call passes all messages that the centre has in memory, so many of them in less than a tenth of a second. For each so many it rests a
-// second more, so that it takes a tenth of the time at most.
+// Where many of the oldest messages stay, a call passes once through all that the centre has in memory, so many of them in less than a tenth
+// of a second. For each so many it rests a second more, so that it takes a tenth of the time at most.
 const PASSED_A_SECOND: u64 = 2_500_000;
 
 // So many seconds lie at least between two walks through the messages, and behind a call that was not done.
