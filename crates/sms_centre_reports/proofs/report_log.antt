@@ -1,5 +1,5 @@
 pub mod Finding
-pub mod Pairing
+pub mod Indexing
 pub mod Passing
 pub mod Registering
 pub mod Rooms

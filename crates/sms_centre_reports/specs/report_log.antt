@@ -1,3 +1,3 @@
-pub mod ByMessage
+pub mod Places
 pub mod ReportLog
 pub mod Reporting

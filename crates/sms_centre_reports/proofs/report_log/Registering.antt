@@ -1,5 +1,5 @@
 -- The log follows the rows of reports.
-use Rattle.std.proofs.Common.{◌≡◌, ℕ, List, [], ◌∷◌, map, Bool, true, false, refl, sym, ◌∙◌, ap, ap₂}
+use Rattle.std.proofs.Common.{◌≡◌, ℕ, List, [], ◌∷◌, map, Bool, true, false, refl, ◌∙◌, ap, ap₂}
 use Rattle.std.specs.Prelude.{◌==◌, nat_lt, if◌then◌else◌}
 use Rattle.sms_rows.specs.table.Table.{AllAbove, Rises, insert, put, without}
 use Rattle.sms_centre_rows.specs.declared.reports.report.ReportRow.{ReportRow}

@@ -7,8 +7,8 @@ use Rattle.sms_centre_reports.specs.report_log.ReportLog.{HasLogRoom, LogInMemor
 pub fewer_room : (few many : ℕ) (log : LogInMemory) → few ≤ many → HasLogRoom many log → HasLogRoom few log
 fewer_room few many log l r =
     let reports : length log.reports.rows + many ≤ log.reports.capacity = r.reports in
-    let by_message : length log.by_message.rows + many ≤ log.by_message.capacity = r.by_message in
-    record { reports = omega (arith, l, reports); by_message = omega (arith, l, by_message) }
+    let places : many ≤ log.places.room = r.places in
+    record { reports = omega (arith, l, reports); places = omega (arith, l, places) }
 
 module _ {A : Type 0} (key : A → ℕ) where
   pub room_out : (n extra : ℕ) (old new : RowsInMemory A) → new ≡ record old { rows = without key n old.rows } → HasRoom extra old → HasRoom extra new

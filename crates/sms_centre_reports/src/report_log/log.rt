@@ -1,14 +1,13 @@
 //! The log of reports.
-ghost use Rattle.std.specs.Prelude.{◌≡◌, ℕ, ◌+◌, ◌<◌, ◌≤◌, ◌++◌, List, [], length, map, slice_get, vec_capacity, vec_len, IfOk};
+ghost use Rattle.std.specs.Prelude.{◌≡◌, ℕ, ◌+◌, ◌≤◌, List, [], length, map, slice_get, IfOk};
 ghost use Rattle.std.specs.Option.{option_map};
-ghost use Rattle.sms_centre_reports.specs.report_log.ByMessage.{report_there, reports_at};
 ghost use Rattle.sms_centre_reports.specs.report_log.ReportLog.{HasLogRoom, Represents, Suffices, is_of_last as is_of_last_of, made_key, made_report};
 ghost use Rattle.sms_centre_rows.specs.reports.Reports.{report_key, report_of, report_reaching};
 ghost use Rattle.sms_centre_rows.specs.declared.reports.report.ReportRow.{ReportRow as ReportRowOf};
-ghost use Rattle.sms_rows.specs.table.Table.{Rises, put as put_of, row_at, without, without_all};
+ghost use Rattle.sms_rows.specs.table.Table.{Rises, put as put_of, without, without_all};
 ghost use Rattle.sms_centre_rows.specs.waiting.Revisions.{all_revised, revised, revision_key};
 
-use crate::report_log::by_message::{MessageReport, all_by_message, place_if_of, under_message};
+use crate::report_log::places::{Places, PlacesReserve, places_of};
 use sms_base::MessageId;
 use sms_centre_rows::reports::ReportRow;
 use sms_centre_rows::waiting::{Revision, only_remove};
@@ -33,42 +32,41 @@ impl Row for LoggedReport {
     }
 }
 
-/// All reports that were made, in the order made, and by their messages.
+/// All reports that were made, in the order made, and their places by their messages.
 #[derive(Drop)]
 pub struct ReportLog {
     reports: RollingTable<LoggedReport>,
-    by_message: RollingTable<MessageReport>,
+    places: Places,
+    // No two reports were of one message, as in each centre; else the places tell nothing.
+    is_once: bool,
 }
 
 impl Model for ReportLog {
-    ghost use Rattle.sms_centre_reports.specs.report_log.ByMessage.{AreSameReports};
-    ghost use Rattle.sms_centre_reports.specs.report_log.ReportLog.{LogInMemory};
+    ghost use Rattle.std.specs.Prelude.{◌≡◌, true};
+    ghost use Rattle.sms_centre_reports.specs.report_log.Places.{AreFound};
+    ghost use Rattle.sms_centre_reports.specs.report_log.ReportLog.{LogInMemory, made_key};
+    ghost use Rattle.sms_rows.specs.table.Table.{Rises};
 
     ghost Value = { LogInMemory };
 
-    ghost view = { λ l. record { reports = l.reports; by_message = l.by_message } };
+    ghost view = { λ l. record { reports = l.reports; places = l.places } };
 
-    ghost invariant = { λ l. AreSameReports l.reports.rows l.by_message.rows };
+    ghost invariant = { λ l. Rises made_key l.reports.rows × (l.is_once ≡ true → AreFound l.reports.rows l.places) };
 }
 
 /// Memory for what an event brings, seen by contracts as how many reports it holds.
 #[derive(Drop)]
 pub struct ReportLogReserve {
     reports: TableReserve<LoggedReport>,
-    by_message: TableReserve<MessageReport>,
-    // For those that go, where several go at once.
-    gone: Vec<MessageReport>,
+    places: PlacesReserve,
 }
 
 impl Model for ReportLogReserve {
-    ghost use Rattle.std.specs.Prelude.{◌≡◌, [], vec_capacity};
     ghost use Rattle.sms_centre_reports.specs.report_log.ReportLog.{LogReserve};
 
     ghost Value = { LogReserve };
 
-    ghost view = { λ s. record { reports = s.reports; by_message = s.by_message; gone = vec_capacity s.gone } };
-
-    ghost invariant = { λ s. s.gone.items ≡ [] };
+    ghost view = { λ s. record { reports = s.reports; places = s.places } };
 }
 
 impl ReportLog {
@@ -78,7 +76,8 @@ impl ReportLog {
     {
         ReportLog {
             reports: RollingTable::new(alloc),
-            by_message: RollingTable::new(alloc),
+            places: Places::new(alloc),
+            is_once: true,
         }
     }
 
@@ -88,10 +87,11 @@ impl ReportLog {
         ensures { IfOk result (λ log. Represents log rows.now) }
     {
         let reports = made_reports(alloc, rows)?;
-        match all_by_message(alloc, reports.as_slice()) {
-            Ok(by_message) => Ok(ReportLog {
+        match places_of(alloc, reports.as_slice()) {
+            Ok((places, is_once)) => Ok(ReportLog {
                 reports: RollingTable::from_vec(reports),
-                by_message,
+                places,
+                is_once,
             }),
             Err(error) => {
                 drop(reports);
@@ -117,15 +117,32 @@ impl ReportLog {
         }
     }
 
-    /// The place of the message's report, if one was made. It is found in logarithmic time.
+    /// The place of the message's report, if one was made. In a log of a centre, where no two reports are of one message, it costs
+    /// the same however many there are.
     pub fn place_of(&self, id: MessageId) -> Option<u64>
         ensures { (rows : List ReportRowOf) → Represents self.now rows → result ≡ option_map (λ r. r.place) (report_of id rows) }
     {
-        let first = self.by_message.place_of(Key::numbers(id.number(), 0));
-        match self.by_message.get(first) {
-            Some(report) => place_if_of(report, id),
-            None => None,
+        if self.is_once {
+            return self.places.of(id);
         }
+        self.search(id)
+    }
+
+    // The same, by a look at all reports.
+    fn search(&self, id: MessageId) -> Option<u64>
+        ensures { (rows : List ReportRowOf) → Represents self.now rows → result ≡ option_map (λ r. r.place) (report_of id rows) }
+    {
+        for place in 0..self.reports.len() {
+            match self.reports.get(place) {
+                Some(report) => {
+                    if report.id.number() == id.number() {
+                        return Some(report.place);
+                    }
+                }
+                None => (),
+            }
+        }
+        None
     }
 
     /// Whether the last report is that of the message.
@@ -147,13 +164,8 @@ impl ReportLog {
         ensures { IfOk result (λ reserve. Suffices changes self.now reserve) }
     {
         let reports = self.reports.make_reserve(alloc, changes)?;
-        let by_message = self.by_message.make_reserve(alloc, changes)?;
-        let gone = memory_for(alloc, changes)?;
-        Ok(ReportLogReserve {
-            reports,
-            by_message,
-            gone,
-        })
+        let places = self.places.make_reserve(alloc, changes)?;
+        Ok(ReportLogReserve { reports, places })
     }
 
     /// Puts the changes of reports in, without taking memory.
@@ -161,22 +173,15 @@ impl ReportLog {
         requires { Suffices (length changes.now) self.old reserve }
         ensures { (rows : List ReportRowOf) → Represents self.old rows → Represents self.new (all_revised report_key report_reaching changes.now rows) }
     {
-        let ReportLogReserve {
-            reports,
-            by_message,
-            mut gone,
-        } = reserve;
+        let ReportLogReserve { reports, places } = reserve;
         self.reports.use_reserve(reports);
-        self.by_message.use_reserve(by_message);
-        self.apply_all(changes, &mut gone);
-        drop(gone);
+        self.places.use_reserve(places);
+        self.apply_all(changes);
     }
 
     // Several removals alone cost what goes, and of what stays what is before it, or one pass.
-    fn apply_all(&mut self, changes: &[Revision<ReportRow>], gone: &mut Vec<MessageReport>)
-        requires room { HasLogRoom (length changes.now) self.old }
-        requires none { gone.old.items ≡ [] }
-        requires gone { 1 < length changes.now → length changes.now ≤ vec_capacity gone.old }
+    fn apply_all(&mut self, changes: &[Revision<ReportRow>])
+        requires { HasLogRoom (length changes.now) self.old }
         ensures { (rows : List ReportRowOf) → Represents self.old rows → Represents self.new (all_revised report_key report_reaching changes.now rows) }
     {
         if changes.len() < 2 {
@@ -184,7 +189,7 @@ impl ReportLog {
             return;
         }
         if only_remove(changes) {
-            self.take_all(changes, gone);
+            self.take_all(changes);
             return;
         }
         self.apply_each(changes);
@@ -219,8 +224,9 @@ impl ReportLog {
         ensures room { (extra : ℕ) → HasLogRoom (extra + 1) self.old → HasLogRoom extra self.new }
     {
         self.take_out(Key::of(report.place));
+        let is_new = self.places.put_ready(report.id, report.place);
+        self.is_once = self.is_once && is_new;
         self.reports.put_ready(report);
-        self.by_message.put_ready(under_message(&report));
     }
 
     // The report at that place goes, if there is one.
@@ -229,59 +235,18 @@ impl ReportLog {
         ensures room { (extra : ℕ) → HasLogRoom extra self.old → HasLogRoom extra self.new }
     {
         match self.reports.remove(place) {
-            Some(report) => {
-                self.by_message.remove(under_message(&report).key());
-            }
+            Some(report) => self.places.take(report.id),
             None => (),
         }
     }
 
     // The reports at the places of these changes go.
-    fn take_all(&mut self, changes: &[Revision<ReportRow>], gone: &mut Vec<MessageReport>)
-        requires none { gone.old.items ≡ [] }
-        requires gone { length changes.now ≤ vec_capacity gone.old }
+    fn take_all(&mut self, changes: &[Revision<ReportRow>])
         ensures { self.new.reports.rows ≡ without_all made_key (map (revision_key report_key) changes.now) self.old.reports.rows }
     {
-        self.note_gone(changes, gone);
-        self.by_message.remove_all(gone.as_slice());
+        self.places.take_all(&self.reports, changes);
         self.reports.remove_all(changes);
     }
-
-    // Notes the reports at the places of these changes.
-    fn note_gone(&self, changes: &[Revision<ReportRow>], gone: &mut Vec<MessageReport>)
-        requires none { gone.old.items ≡ [] }
-        requires gone { length changes.now ≤ vec_capacity gone.old }
-        ensures { gone.new.items ≡ reports_at (map (revision_key report_key) changes.now) self.now.reports.rows }
-    {
-        for change in changes {
-            self.note(change.key(), gone);
-        }
-    }
-
-    fn note(&self, place: Key, gone: &mut Vec<MessageReport>)
-        requires { vec_len gone.old < vec_capacity gone.old }
-        ensures items { gone.new.items ≡ gone.old.items ++ report_there (row_at made_key place self.now.reports.rows) }
-        ensures len { vec_len gone.new ≤ vec_len gone.old + 1 }
-        ensures capacity { vec_capacity gone.new ≡ vec_capacity gone.old }
-    {
-        match self.reports.find(place) {
-            Some(report) => gone.push_reserved(under_message(report)),
-            None => (),
-        }
-    }
-}
-
-// Memory for the changes that go, where there are several.
-fn memory_for(alloc: Global, changes: usize) -> Result<Vec<MessageReport>, AllocError>
-    ensures none { IfOk result (λ gone. gone.items ≡ []) }
-    ensures room { 1 < changes → IfOk result (λ gone. changes ≤ vec_capacity gone) }
-{
-    if changes < 2 {
-        let none = Vec::new(alloc);
-        return Ok(none);
-    }
-    let gone = Vec::with_capacity(alloc, changes)?;
-    Ok(gone)
 }
 
 fn made(row: &ReportRow) -> LoggedReport
