@@ -1,10 +1,11 @@
 //! Tables of rows by their keys, between events and within one.
 //!
 //! `Table` has its rows in the order of their keys, at most one row a key, and finds one in logarithmic time. A
-//! `Change` takes no memory where room was made before. A `Key` is a number, two numbers, a number and a small one, or
-//! digits; contracts see it as one number. `TableDraft` is a table within an event: the rows from before it, and what it
-//! changed. It settles into changes with the memory that they need. `adopt` puts them in without taking more: so a plan
-//! is made, is committed, and then can't fail.
+//! `RollingTable` has them in a ring, for rows that are added at the end and leave at the front. A `Change` takes no
+//! memory where room was made before. A `Key` is a number, a number and a small one, or digits; contracts see it as one
+//! number. `TableDraft` is a table within an event: the rows from before it, and what it changed. It settles into
+//! changes with the memory that they need. `adopt` puts them in without taking more: so a plan is made, is committed,
+//! and then can't fail.
 ghost use Rattle.std.specs.Prelude.{◌≡◌, ◌↔◌, ℕ, ◌+◌, ◌*◌, ◌<◌, ◌≤◌, not, true, [], nat_lt, length, map, drop, max, vec_capacity, MatchResult, OnOk, OnErr};
 ghost use Rattle.std.specs.Prelude.{IsOk, IfOk, IfErr, option_copied};
 ghost use Rattle.sms_rows.specs.table.Table.{HasRoom, IsAt, IsGap, IsRange, Rises, all_applied, applied, is_there, put, row_at, rows_between, rows_from};

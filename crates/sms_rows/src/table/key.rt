@@ -1,15 +1,12 @@
 //! The keys of rows.
 ghost use Rattle.std.specs.Prelude.{◌≡◌};
 ghost use Rattle.sms_base.specs.Msisdn.{IsMsisdn};
-ghost use Rattle.sms_rows.specs.table.Keys.{digits_key, numbers_key, pair_key};
+ghost use Rattle.sms_rows.specs.table.Keys.{digits_key, pair_key};
 
 use sms_base::{Digits, Msisdn, digits_key};
 use std::marker::Model;
 
-/// 2 to the 64th: as many numbers as a second part has.
-const NUMBERS: u128 = 18_446_744_073_709_551_616;
-
-/// The key of a row: a number, two numbers, a number and a small one, or digits.
+/// The key of a row: a number, a number and a small one, or digits.
 ///
 /// Contracts see a key as one number, which orders the rows. Keys of one kind are equal exactly where what they were
 /// made of is. Those of a first part are neighbours. A table has keys of one kind.
@@ -51,15 +48,6 @@ impl Key {
     {
         Key {
             place: 256 * u128::from(first) + u128::from(second),
-        }
-    }
-
-    /// The key of two numbers.
-    pub fn numbers(first: u64, second: u64) -> Key
-        ensures { result ≡ numbers_key first second }
-    {
-        Key {
-            place: NUMBERS * u128::from(first) + u128::from(second),
         }
     }
 

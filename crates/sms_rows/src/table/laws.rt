@@ -1,7 +1,7 @@
 //! Laws of tables and keys, over their definitions alone.
-ghost use Rattle.std.specs.Prelude.{◌≡◌, ◌<◌, ◌≤◌, ◌^◌, ℕ, List, length, max};
+ghost use Rattle.std.specs.Prelude.{◌≡◌, ◌<◌, ◌≤◌, ℕ, List, length, max};
 ghost use Rattle.sms_base.specs.Msisdn.{AllDigits};
-ghost use Rattle.sms_rows.specs.table.Keys.{digits_key, numbers_key, pair_key};
+ghost use Rattle.sms_rows.specs.table.Keys.{digits_key, pair_key};
 ghost use Rattle.sms_rows.specs.table.Since.{oldest_first, rows_after};
 ghost use Rattle.sms_rows.specs.table.Table.{HasRoom, RowsInMemory, Rises, all_applied, left_by, newest_of, row_at, reserve_for};
 ghost use Rattle.sms_rows.specs.declared.table.change.Change.{Change};
@@ -28,12 +28,6 @@ pub fn reserve_has_room<T: Row + Drop>()
 /// Keys of two parts are equal only where the parts are.
 pub fn equal_pairs()
     ensures { (first other second another : ℕ) → second < 256 → another < 256 → pair_key first second ≡ pair_key other another → (first ≡ other)
-        × (second ≡ another) }
-{}
-
-/// Keys of two numbers are equal only where the numbers are.
-pub fn equal_numbers()
-    ensures { (first other second another : ℕ) → second < 2 ^ 64 → another < 2 ^ 64 → numbers_key first second ≡ numbers_key other another → (first ≡ other)
         × (second ≡ another) }
 {}
 
