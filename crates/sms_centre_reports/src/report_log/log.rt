@@ -117,8 +117,8 @@ impl ReportLog {
         }
     }
 
-    /// The place of the message's report, if one was made. In a log of a centre, where no two reports are of one message, it costs
-    /// the same however many there are.
+    /// The place of the message's report, if one was made. In a log of a centre, where no two reports are of one message, the time
+    /// does not grow with the log.
     pub fn place_of(&self, id: MessageId) -> Option<u64>
         ensures { (rows : List ReportRowOf) → Represents self.now rows → result ≡ option_map (λ r. r.place) (report_of id rows) }
     {
@@ -128,7 +128,7 @@ impl ReportLog {
         self.search(id)
     }
 
-    // The same, by a look at all reports.
+    // The place of the message's report, by a look at all reports.
     fn search(&self, id: MessageId) -> Option<u64>
         ensures { (rows : List ReportRowOf) → Represents self.now rows → result ≡ option_map (λ r. r.place) (report_of id rows) }
     {

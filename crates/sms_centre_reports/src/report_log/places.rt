@@ -15,7 +15,7 @@ use sms_rows::table::{Key, RollingTable, Row};
 use std::alloc::{AllocError, Global};
 use std::marker::Model;
 
-/// Places of reports under their messages. A look, a put and a removal cost the same however many there are.
+/// Places of reports under their messages. The time of a look, a put and a removal does not grow with their number.
 #[derive(Drop)]
 pub(crate) struct Places {
     map: IndexMap<u64, u64>,
@@ -77,7 +77,7 @@ impl Places {
         Ok(old.is_none())
     }
 
-    // The same where there is room, without taking memory.
+    // Puts the place where there is room, without taking memory. Whether none was there.
     pub(crate) fn put_ready(&mut self, id: MessageId, place: u64) -> bool
         requires { 0 < self.old.room }
         ensures new { result ≡ true → place_under id self.old ≡ None }
